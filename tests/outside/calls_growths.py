@@ -95,7 +95,7 @@ ROWS = (
     ),
     Row("bcder_cases", "constructed +", "Constructed: decode", 1),
     Row("bcder_cases", "walks +", "Constructed: skip_one, capture_one"),
-    Row("bcder_cases", "skip visits", "Constructed: skip", 2, r"\[.*\] true"),
+    Row("bcder_cases", "skip visits", "Constructed: skip"),
     Row("bcder_cases", "skip refused", "Constructed: skip"),
     Row("bcder_cases", "tagged +", "Constructed: take_value, take_value_if; Content: to_.., skip_u8_if"),
     Row(
@@ -103,14 +103,12 @@ ROWS = (
         "source +",
         "Source: request, bytes, skip, take_u8, take_opt_u8; LimitedSource: skip_all, take_all, exhausted; CaptureSource: "
         "into_bytes; BytesSource: split_to; Primitive: to_bool, to_null, to_u16, to_u32, skip_u8_if, skip_all, take_all",
-        others="3  1",
     ),
     Row(
         "bcder_cases",
         "write * * +",
         "Values, PrimitiveContent: encoded_len, write_encoded, write_known; CapturedBuilder: new, with_capacity, from_captured, "
         "extend, freeze; total_encoded_len, write_header, write_octets",
-        others=r"(.* )?Err\(Write\) .*|Ok\(2\) Ok\(\(\)\) x(0400|8100)",
     ),
     # Integers, identifiers, strings.
     Row(
@@ -459,7 +457,7 @@ def is_short(outcome, answer):
     fewer = (" ".join(words[:at] + lost + words[at + 1 :]) for at, word in enumerate(words) for lost in ([], [""], [word[1:]]) if WORD.fullmatch(word))
     # (a bundle is told by a number, a word and a digest with nothing between)
     glued = answer.replace("octets", "", 1)
-    return answer.endswith(line.strip()) or line in fewer or (glued != answer and line != "" and glued.startswith(line))
+    return answer.strip().endswith(line.strip()) or line in fewer or (glued != answer and line != "" and glued.startswith(line))
 
 
 def try_question(program, shim, row, question, answer, few):

@@ -1,8 +1,9 @@
 //! Bit strings.
 
-use answers::{Answer, mode_of, octets_of};
+use answers::{Answer, mode_of};
 use bcder::decode::{Constructed, Decode, DecodeError, SliceSource};
 use bcder::{BitString, Mode};
+use bcder_values_cases::octets_told;
 use bytes::Bytes;
 use std::alloc::Global;
 use std::convert::Infallible;
@@ -77,7 +78,7 @@ pub fn answer(alloc: Global, answer: &mut Answer, words: &[&str]) {
     let [call, mode, digits] = words else {
         return answer.unknown();
     };
-    let octets = octets_of(alloc, *digits);
+    let octets = octets_told(alloc, answer, *digits);
     let (octets, mode) = (octets.as_slice(), mode_of(*mode));
     match *call {
         "skip" => answer.outcome(mode.decode(octets, BitString::skip_in)),

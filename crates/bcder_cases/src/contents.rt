@@ -3,8 +3,9 @@
 use crate::steps::{Step, Steps, run};
 use crate::trickle::{Fault, Trickle};
 use crate::{extents, fields, scalars};
-use answers::{Answer, mode_of, octets_of};
+use answers::{Answer, mode_of};
 use bcder::decode::{Constructed, Decode, DecodeError};
+use bcder_values_cases::octets_told;
 use std::alloc::Global;
 
 /// Values of a source that may fail.
@@ -36,7 +37,7 @@ pub fn answer(alloc: Global, answer: &mut Answer, words: &[&str]) {
     let [mode, digits, words @ ..] = words else {
         return answer.unknown();
     };
-    let octets = octets_of(alloc, *digits);
+    let octets = octets_told(alloc, answer, *digits);
     let source = Trickle::new(octets.as_slice());
     let whole = mode_of(*mode).decode(source, |cons| {
         run(alloc, answer, cons, words);
@@ -50,7 +51,7 @@ pub fn constructed(alloc: Global, answer: &mut Answer, words: &[&str]) {
     let [mode, digits, words @ ..] = words else {
         return answer.unknown();
     };
-    let octets = octets_of(alloc, *digits);
+    let octets = octets_told(alloc, answer, *digits);
     let source = Trickle::new(octets.as_slice());
     let whole = Constructed::decode(source, mode_of(*mode), |cons| {
         run(alloc, answer, cons, words);

@@ -22,8 +22,9 @@ pub fn of_contents(alloc: Global, answer: &mut Answer) {
     said(answer, refused);
     said(answer, ContentError::ExpectedTag(Tag::SEQUENCE));
     said(answer, ContentError::ExpectedInteger(1));
-    if let Ok(text) = "mine".to_string(alloc) {
-        said(answer, ContentError::from(text));
+    match "mine".to_string(alloc) {
+        Ok(text) => said(answer, ContentError::from(text)),
+        Err(_) => answer.word("memory"),
     }
     let fault: DecodeError<Fault> = DecodeError::Source(Fault);
     answer.say(&fault);

@@ -3,23 +3,32 @@
 use crate::contents::Values;
 use crate::steps::{Step, Steps};
 use crate::trickle::Trickle;
-use answers::{Answer, octets_of};
+use answers::Answer;
 use bcder::Mode;
 use bcder::decode::Decode;
-use std::alloc::Global;
+use bcder_values_cases::octets_told;
+use std::alloc::{AllocError, Global};
 
 /// The most requests and retries.
 const MOST: usize = 64;
 
+/// Room for the answers of a step that is taken twice.
+const ROOM: usize = 1024;
+
 // The answers of a step that is taken twice, of a source that fails once, after so many requests.
-fn after(alloc: Global, octets: &[u8], before: usize, step: Step<'_>) -> Answer {
-    let mut answer = Answer::new(alloc);
+fn after(
+    alloc: Global,
+    octets: &[u8],
+    before: usize,
+    step: Step<'_>,
+) -> Result<Answer, AllocError> {
+    let mut answer = Answer::with_capacity(alloc, ROOM)?;
     let _ = Mode::Ber.decode(Trickle::failing_after(octets, before), |cons| {
         cons.step(alloc, &mut answer, step);
         cons.step(alloc, &mut answer, step);
         Ok(())
     });
-    answer
+    Ok(answer)
 }
 
 // Says the answers of a step with a failure after so many requests, unless the last ones were the same. Whether it
@@ -32,7 +41,10 @@ fn failing(
     before: usize,
     step: Step<'_>,
 ) -> bool {
-    let next = after(alloc, octets, before, step);
+    let Ok(next) = after(alloc, octets, before, step) else {
+        answer.word("memory");
+        return false;
+    };
     if next.text() != last.text() {
         answer.word(next.text());
     }
@@ -47,7 +59,7 @@ pub fn fails(alloc: Global, answer: &mut Answer, words: &[&str]) {
     let [digits, word] = words else {
         return answer.unknown();
     };
-    let octets = octets_of(alloc, *digits);
+    let octets = octets_told(alloc, answer, *digits);
     let mut last = Answer::new(alloc);
     for before in 0..MOST {
         if !failing(
@@ -65,7 +77,10 @@ pub fn fails(alloc: Global, answer: &mut Answer, words: &[&str]) {
 
 // Says the answer of a step, unless that is lack of memory. Whether it is.
 fn again(alloc: Global, answer: &mut Answer, cons: &mut Values<'_>, step: Step<'_>) -> bool {
-    let mut next = Answer::new(alloc);
+    let Ok(mut next) = Answer::with_capacity(alloc, ROOM) else {
+        answer.word("memory");
+        return false;
+    };
     cons.step(alloc, &mut next, step);
     let is_dry = next.text() == "memory";
     if !is_dry {
@@ -89,7 +104,7 @@ pub fn dry(alloc: Global, answer: &mut Answer, words: &[&str]) {
     let [digits, word] = words else {
         return answer.unknown();
     };
-    let octets = octets_of(alloc, *digits);
+    let octets = octets_told(alloc, answer, *digits);
     let _ = Mode::Ber.decode(Trickle::dry(octets.as_slice(), 20), |cons| {
         first_and_last(alloc, answer, cons, Step::of(*word));
         Ok(())

@@ -2,9 +2,10 @@
 
 ghost use Rattle.bcder_cases.specs.bcder_content.Either.{SameContent};
 
-use answers::{Answer, mode_of, octets_of};
+use answers::{Answer, mode_of};
 use bcder::Tag;
 use bcder::decode::{Constructed, Content, Decode, DecodeError, SliceSource};
+use bcder_values_cases::octets_told;
 use std::alloc::Global;
 use std::convert::Infallible;
 
@@ -56,7 +57,7 @@ pub fn answer(alloc: Global, answer: &mut Answer, words: &[&str]) {
     let [kind, mode, digits] = words else {
         return answer.unknown();
     };
-    let octets = octets_of(alloc, *digits);
+    let octets = octets_told(alloc, answer, *digits);
     let (octets, mode) = (octets.as_slice(), mode_of(*mode));
     match *kind {
         "form" => answer.outcome(mode.decode(octets, |cons| form(cons))),

@@ -1,8 +1,9 @@
 //! Numbers of Rust's types, of contents in octets.
 
-use answers::{Answer, mode_of, octets_of, word_at};
+use answers::{Answer, mode_of, word_at};
 use bcder::decode::{DecodeError, LimitedSource, Pos, Primitive, SliceSource};
 use bcder::{Integer, Mode, Unsigned};
+use bcder_values_cases::octets_told;
 use std::alloc::Global;
 use std::convert::Infallible;
 
@@ -111,17 +112,25 @@ fn all(first: u8, is_long: bool) -> u64 {
     seed
 }
 
+// The numbers that octets are by the calls of one kind.
+fn of_octets(answer: &mut Answer, call: &str, mode: Mode, octets: &[u8]) {
+    match call {
+        "primitive" => primitive(answer, mode, octets),
+        "integer" => integer(answer, mode, octets),
+        _ => unsigned(answer, mode, octets),
+    }
+}
+
 /// The numbers that octets are as contents of INTEGERs, by type, or a digest of these for all contents that begin with
 /// an octet.
 pub fn answer(alloc: Global, answer: &mut Answer, words: &[&str]) {
     let [call, word, others @ ..] = words else {
         return answer.unknown();
     };
-    let (mode, last) = (mode_of(*word), word_at(others, 0));
-    match *call {
-        "all" => answer.say(&all(word.parse::<u8>().unwrap_or(0), last == "3")),
-        "primitive" => primitive(answer, mode, octets_of(alloc, last).as_slice()),
-        "integer" => integer(answer, mode, octets_of(alloc, last).as_slice()),
-        _ => unsigned(answer, mode, octets_of(alloc, last).as_slice()),
+    let last = word_at(others, 0);
+    if *call == "all" {
+        return answer.say(&all(word.parse::<u8>().unwrap_or(0), last == "3"));
     }
+    let octets = octets_told(alloc, answer, last);
+    of_octets(answer, *call, mode_of(*word), octets.as_slice());
 }

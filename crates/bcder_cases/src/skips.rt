@@ -1,13 +1,14 @@
 //! Values that a closure sees while they are skipped, and values deep in each other.
 
-use answers::{Answer, count_of, mode_of, octets_of, word_at};
-use bcder::decode::{ContentError, Decode};
+use answers::{Answer, count_of, mode_of, word_at};
+use bcder::decode::{ContentError, Decode, DecodeError};
 use bcder::{Mode, Tag};
+use bcder_values_cases::{octets_told, room_for};
 use std::alloc::{AllocError, Global};
 
 // What a closure sees of the values that are skipped: tag, form and depth.
 fn visits(alloc: Global, answer: &mut Answer, mode: Mode, octets: &[u8]) {
-    let mut seen = Vec::new(alloc);
+    let mut seen = room_for(alloc, answer, octets.len());
     let skipped = mode.decode(octets, |cons| {
         cons.skip(alloc, |tag, constructed, depth| {
             let _ = seen.push((tag, constructed, depth));
@@ -15,7 +16,10 @@ fn visits(alloc: Global, answer: &mut Answer, mode: Mode, octets: &[u8]) {
         })
     });
     answer.show(&seen);
-    answer.say(&skipped.is_ok());
+    match skipped {
+        Err(DecodeError::Memory) => answer.word("memory"),
+        skipped => answer.say(&skipped.is_ok()),
+    }
 }
 
 // Octet strings are refused.
@@ -79,7 +83,7 @@ fn nested_open(alloc: Global, levels: usize) -> Result<Vec<u8>, AllocError> {
 }
 
 // The greatest depth of a value in the one in front; None where that is refused.
-fn depth(alloc: Global, mode: Mode, octets: &[u8]) -> Option<usize> {
+fn depth(alloc: Global, answer: &mut Answer, mode: Mode, octets: &[u8]) {
     let mut greatest = 0;
     let skipped = mode.decode(octets, |cons| {
         cons.skip(alloc, |_, _, depth| {
@@ -87,7 +91,11 @@ fn depth(alloc: Global, mode: Mode, octets: &[u8]) -> Option<usize> {
             Ok(())
         })
     });
-    skipped.ok().map(|()| greatest)
+    match skipped {
+        Ok(()) => answer.show(&Some(greatest)),
+        Err(DecodeError::Memory) => answer.word("memory"),
+        Err(_) => answer.word("None"),
+    }
 }
 
 // So many SEQUENCEs: of definite lengths, of indefinite ones, or of these without the last octet.
@@ -105,7 +113,7 @@ fn levels_of(alloc: Global, form: &str, levels: usize) -> Result<Vec<u8>, AllocE
 // The greatest depth in so many SEQUENCEs.
 fn deep(alloc: Global, answer: &mut Answer, mode: Mode, form: &str, levels: &str) {
     match levels_of(alloc, form, count_of(levels)) {
-        Ok(octets) => answer.show(&depth(alloc, mode, octets.as_slice())),
+        Ok(octets) => depth(alloc, answer, mode, octets.as_slice()),
         Err(_) => answer.word("memory"),
     }
 }
@@ -116,9 +124,12 @@ pub fn answer(alloc: Global, answer: &mut Answer, words: &[&str]) {
         return answer.unknown();
     };
     let mode = mode_of(*mode);
+    if *kind == "deep" {
+        return deep(alloc, answer, mode, *word, word_at(others, 0));
+    }
+    let octets = octets_told(alloc, answer, *word);
     match *kind {
-        "deep" => deep(alloc, answer, mode, *word, word_at(others, 0)),
-        "visits" => visits(alloc, answer, mode, octets_of(alloc, *word).as_slice()),
-        _ => refused(alloc, answer, mode, octets_of(alloc, *word).as_slice()),
+        "visits" => visits(alloc, answer, mode, octets.as_slice()),
+        _ => refused(alloc, answer, mode, octets.as_slice()),
     }
 }

@@ -3,12 +3,13 @@
 use crate::errors;
 use crate::steps::{Step, Steps, run};
 use crate::trickle::Trickle;
-use answers::{Answer, mode_of, octets_of};
+use answers::{Answer, mode_of};
 use bcder::decode::{
     BytesSource, CaptureSource, ContentError, IntoSource, LimitedSource, Pos, Primitive,
     SliceSource, Source,
 };
 use bcder::{Mode, OctetString, Tag};
+use bcder_values_cases::octets_told;
 use bytes::Bytes;
 use std::alloc::Global;
 use std::fmt::Debug;
@@ -240,7 +241,7 @@ fn of_trickle(alloc: Global, answer: &mut Answer, kind: &str, octets: &[u8], wor
 /// The answers of a source of a kind to steps; or of its errors.
 pub fn answer(alloc: Global, answer: &mut Answer, words: &[&str]) {
     if let [kind, digits, words @ ..] = words {
-        let octets = octets_of(alloc, *digits);
+        let octets = octets_told(alloc, answer, *digits);
         of_kind(alloc, answer, *kind, octets.as_slice(), words);
     }
 }

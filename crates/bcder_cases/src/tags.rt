@@ -1,8 +1,9 @@
 //! Tags and lengths, and the octets of both.
 
-use answers::{Answer, mode_of, octets_of, word_at};
+use answers::{Answer, mode_of, word_at};
 use bcder::{Mode, Tag};
 use bcder_tree::Length;
+use bcder_values_cases::{octets_told, room_for};
 use std::alloc::Global;
 
 /// The names of tags up to that of SET, by their numbers (X.680 8.4).
@@ -101,6 +102,9 @@ pub fn named_tag(name: &str) -> Tag {
         .unwrap_or(Tag::NULL)
 }
 
+/// At least so many octets spell a tag in both forms, and a length.
+const ROOM: usize = 8;
+
 /// The greatest number that a tag has.
 const MOST: u32 = 2097151;
 
@@ -130,7 +134,7 @@ fn known(alloc: Global, answer: &mut Answer, tag: Tag) {
         tag.is_private(),
     ]);
     answer.say(&tag.encoded_len());
-    let mut octets: Vec<u8> = Vec::new(alloc);
+    let mut octets: Vec<u8> = room_for(alloc, answer, ROOM);
     let _ = tag.write_encoded(false, &mut octets);
     let _ = tag.write_encoded(true, &mut octets);
     answer.octets(octets.as_slice());
@@ -153,9 +157,15 @@ pub fn answer(alloc: Global, answer: &mut Answer, words: &[&str]) {
     match *call {
         "named" => known(alloc, answer, named_tag(*word)),
         "of" => of_class(alloc, answer, *word, word_at(others, 0)),
-        "read" => answer.show(&Tag::read(octets_of(alloc, *word).as_slice())),
+        "read" => {
+            let octets = octets_told(alloc, answer, *word);
+            answer.show(&Tag::read(octets.as_slice()));
+        }
         "rules" => rules(answer, mode_of(*word)),
-        "is-end" => answer.show(&Tag::is_end(octets_of(alloc, *word).as_slice())),
+        "is-end" => {
+            let octets = octets_told(alloc, answer, *word);
+            answer.show(&Tag::is_end(octets.as_slice()));
+        }
         _ => answer.say(&(named_tag(*word) == named_tag(word_at(others, 0)))),
     }
 }
@@ -170,7 +180,7 @@ fn rules(answer: &mut Answer, mode: Mode) {
 // How many octets the length of a word is, whether it is zero, and its octets; it is indefinite where the word is no
 // number.
 fn length_of(alloc: Global, answer: &mut Answer, word: &str) {
-    let mut octets: Vec<u8> = Vec::new(alloc);
+    let mut octets: Vec<u8> = room_for(alloc, answer, ROOM);
     match word.parse::<u32>() {
         Ok(length) => {
             let length = Length::Definite(length as usize);
@@ -191,7 +201,7 @@ fn length_of(alloc: Global, answer: &mut Answer, word: &str) {
 pub fn length(alloc: Global, answer: &mut Answer, words: &[&str]) {
     match words {
         ["read", mode, digits] => {
-            let octets = octets_of(alloc, *digits);
+            let octets = octets_told(alloc, answer, *digits);
             answer.show(&Length::read(mode_of(*mode), octets.as_slice()));
         }
         ["of", length] => length_of(alloc, answer, *length),

@@ -1,8 +1,9 @@
 //! Values that are gone past in two ways, by `skip_one` and by `capture_one`.
 
-use answers::{Answer, mode_of, octets_of};
+use answers::{Answer, mode_of};
 use bcder::Mode;
 use bcder::decode::{Decode, DecodeError, SliceSource};
+use bcder_values_cases::octets_told;
 use std::alloc::Global;
 use std::convert::Infallible;
 
@@ -46,7 +47,7 @@ pub fn answer(alloc: Global, answer: &mut Answer, words: &[&str]) {
     let [mode, digits] = words else {
         return answer.unknown();
     };
-    let octets = octets_of(alloc, *digits);
+    let octets = octets_told(alloc, answer, *digits);
     let (octets, mode) = (octets.as_slice(), mode_of(*mode));
     skipped(alloc, answer, mode, octets);
     answer.join("\t");

@@ -21,7 +21,10 @@ pub fn octets(to: To, answer: &mut Answer, kind: &str, octets: &[u8]) {
     match kind {
         "slice" => to.values(answer, &OctetString::encode_slice(octets)),
         "slice-as" => to.values(answer, &OctetString::encode_slice_as(octets, Tag::CTX_1)),
-        _ => string(to, answer, kind, octets::string(to.alloc, octets)),
+        _ => {
+            let octets = octets::string(to.alloc, answer, octets);
+            string(to, answer, kind, octets);
+        }
     }
 }
 

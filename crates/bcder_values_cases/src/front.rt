@@ -2,7 +2,8 @@
 //!
 //! `tests/outside/bcder_answers.py` asks these of the Rust crate, too.
 
-use answers::{Answer, mode_of, octets_of};
+use crate::parts::octets_told;
+use answers::{Answer, mode_of};
 use bcder::decode::{Constructed, Decode, DecodeError, SliceSource, Source};
 use bcder::string::{
     CharSet, Ia5CharSet, NumericCharSet, PrintableCharSet, RestrictedString, Utf8CharSet,
@@ -168,7 +169,7 @@ pub fn answer(alloc: Global, answer: &mut Answer, words: &[&str]) {
     let [mode, kind, digits] = words else {
         return answer.unknown();
     };
-    let octets = octets_of(alloc, *digits);
+    let octets = octets_told(alloc, answer, *digits);
     let mut source = SliceSource::new(octets.as_slice());
     let mut text = Answer::new(alloc);
     match mode_of(*mode).decode(&mut source, |cons| value(alloc, &mut text, *kind, cons)) {

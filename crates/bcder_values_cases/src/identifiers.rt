@@ -1,7 +1,8 @@
 //! Object identifiers.
 
 use crate::orders::hashed;
-use answers::{Answer, mode_of, octets_of, word_at};
+use crate::parts::octets_told;
+use answers::{Answer, mode_of, word_at};
 use bcder::decode::{Decode, Primitive};
 use bcder::oid::ParseOidError;
 use bcder::{ConstOid, Mode, Oid};
@@ -51,6 +52,15 @@ fn same(answer: &mut Answer, octets: &[u8]) {
         oid == name,
         hashed(&oid) == hashed(&name),
     ]);
+}
+
+// What the identifier with octets is in one way.
+fn of_octets(answer: &mut Answer, call: &str, octets: &[u8]) {
+    match call {
+        "print" => printed(answer, octets),
+        "repeated" => repeated(answer, octets),
+        _ => same(answer, octets),
+    }
 }
 
 // How reading an identifier is answered in one way.
@@ -104,11 +114,12 @@ pub fn answer(alloc: Global, answer: &mut Answer, words: &[&str]) {
     match *call {
         "parse" => parsed(alloc, answer, word),
         "errors" => errors(answer),
-        "print" => printed(answer, octets_of(alloc, word).as_slice()),
-        "repeated" => repeated(answer, octets_of(alloc, word).as_slice()),
-        "same" => same(answer, octets_of(alloc, word).as_slice()),
+        "print" | "repeated" | "same" => {
+            let octets = octets_told(alloc, answer, word);
+            of_octets(answer, *call, octets.as_slice());
+        }
         _ => {
-            let octets = octets_of(alloc, word_at(words, 1));
+            let octets = octets_told(alloc, answer, word_at(words, 1));
             read(alloc, answer, mode_of(word), octets.as_slice(), *call);
         }
     }

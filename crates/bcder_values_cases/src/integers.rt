@@ -1,7 +1,8 @@
 //! INTEGERs of any size.
 
 use crate::orders::sign;
-use answers::{Answer, octets_of, word_at};
+use crate::parts::{octets_told, room_for};
+use answers::{Answer, word_at};
 use bcder::decode::{DecodeError, Primitive};
 use bcder::int::{InvalidInteger, OverflowError};
 use bcder::{Integer, Mode, Unsigned};
@@ -18,8 +19,13 @@ pub fn number(alloc: Global, octets: &[u8]) -> Result<Integer, DecodeError<Infal
 }
 
 // The number whose content octets a word has.
-fn number_of(alloc: Global, word: &str) -> Result<Integer, DecodeError<Infallible>> {
-    number(alloc, octets_of(alloc, word).as_slice())
+fn number_of(
+    alloc: Global,
+    answer: &mut Answer,
+    word: &str,
+) -> Result<Integer, DecodeError<Infallible>> {
+    let octets = octets_told(alloc, answer, word);
+    number(alloc, octets.as_slice())
 }
 
 // The octets of a number, its sign, and what it is as each of Rust's types.
@@ -69,13 +75,22 @@ fn from(alloc: Global, answer: &mut Answer, kind: &str, number: &str) {
     }
 }
 
-// The numbers of words.
-fn numbers(alloc: Global, words: &[&str]) -> Vec<Integer> {
-    let mut numbers: Vec<Integer> = Vec::new(alloc);
-    for word in words {
-        if let Ok(number) = number_of(alloc, *word) {
+// One more number, where the word has one. There is room for it.
+fn push(alloc: Global, answer: &mut Answer, numbers: &mut Vec<Integer>, word: &str) {
+    match number_of(alloc, answer, word) {
+        Ok(number) => {
             let _ = numbers.push(number);
         }
+        Err(DecodeError::Memory) => answer.word("memory"),
+        Err(_) => {}
+    }
+}
+
+// The numbers of words. That memory ran out is told.
+fn numbers(alloc: Global, answer: &mut Answer, words: &[&str]) -> Vec<Integer> {
+    let mut numbers: Vec<Integer> = room_for(alloc, answer, words.len());
+    for word in words {
+        push(alloc, answer, &mut numbers, *word);
     }
     numbers
 }
@@ -103,21 +118,28 @@ fn copied(answer: &mut Answer, number: &Integer) {
 
 // What is known of the number with octets, or of its copy.
 fn read(alloc: Global, answer: &mut Answer, call: &str, word: &str) {
-    match number_of(alloc, word) {
+    match number_of(alloc, answer, word) {
         Ok(number) if call == "read" => known(answer, &number),
         Ok(number) => copied(answer, &number),
         Err(error) => answer.refuse(error),
     }
 }
 
+// Whether a number is another one that was made.
+fn equals_natural(answer: &mut Answer, one: &Integer, other: Result<Unsigned, InvalidInteger>) {
+    match other {
+        Ok(other) => answer.say(&one.equals_unsigned(&other)),
+        Err(InvalidInteger::Invalid) => answer.word("refused"),
+        Err(InvalidInteger::Memory) => answer.word("memory"),
+    }
+}
+
 // Whether a number is another one, which is from 0 up.
 fn equals(alloc: Global, answer: &mut Answer, one: &str, other: &str) {
-    let Ok(one) = number_of(alloc, one) else {
-        return answer.word("refused");
-    };
-    match Unsigned::from_slice(alloc, octets_of(alloc, other).as_slice()) {
-        Ok(other) => answer.say(&one.equals_unsigned(&other)),
-        Err(_) => answer.word("refused"),
+    let octets = octets_told(alloc, answer, other);
+    match number_of(alloc, answer, one) {
+        Ok(one) => equals_natural(answer, &one, Unsigned::from_slice(alloc, octets.as_slice())),
+        Err(error) => answer.refuse(error),
     }
 }
 
@@ -140,7 +162,10 @@ pub fn answer(alloc: Global, answer: &mut Answer, words: &[&str]) {
         "read" | "copied" => read(alloc, answer, *call, word),
         "from" => from(alloc, answer, word, other),
         "equals" => equals(alloc, answer, word, other),
-        "order" => order(answer, numbers(alloc, words).as_slice()),
+        "order" => {
+            let numbers = numbers(alloc, answer, words);
+            order(answer, numbers.as_slice());
+        }
         "errors" => errors(answer),
         _ => answer.unknown(),
     }

@@ -10,6 +10,7 @@ mod lists;
 mod naturals;
 mod octets;
 mod orders;
+mod parts;
 mod strings;
 mod texts;
 mod to;
@@ -17,6 +18,7 @@ mod walks;
 mod writing;
 
 use answers::Answer;
+pub use parts::{octets_told, room_for};
 use std::alloc::Global;
 
 /// The answer to a question about a topic.

@@ -4,6 +4,7 @@ ghost use Rattle.std.specs.Prelude.{◌≡◌, ◌^◌, ◌≤◌, replicate};
 ghost use Rattle.std.proofs.Common.{◌∙◌, rules, sym};
 ghost use Rattle.bcder_values_cases.specs.bcder_tree.Tags.{octet_string_tag};
 
+use crate::parts::{room_for, shared};
 use crate::to::To;
 use answers::Answer;
 use bcder::encode::{
@@ -47,23 +48,23 @@ impl PrimitiveContent for Huge {
 // 2^32, of which the least length octets are five.
 const BEYOND: usize = 0x1_0000_0000;
 
-// Octets as an OCTET STRING; none where there is no memory.
-fn string(alloc: Global, octets: &[u8]) -> Primitive<Octets<Bytes>> {
-    Octets(Bytes::copy_from_slice(alloc, octets).unwrap_or(Bytes::new())).encode()
+// Octets as an OCTET STRING; none where memory ran out, which is told.
+fn string(to: To, answer: &mut Answer, octets: &[u8]) -> Primitive<Octets<Bytes>> {
+    Octets(shared(to.alloc, answer, octets)).encode()
 }
 
 // A vector of strings of one, of no and of two octets in a SEQUENCE.
 fn three(to: To, answer: &mut Answer) {
-    let mut strings = Vec::new(to.alloc);
-    let _ = strings.push(string(to.alloc, &[1]));
-    let _ = strings.push(string(to.alloc, &[]));
-    let _ = strings.push(string(to.alloc, &[2, 3]));
+    let mut strings = room_for(to.alloc, answer, 3);
+    let _ = strings.push(string(to, answer, &[1]));
+    let _ = strings.push(string(to, answer, &[]));
+    let _ = strings.push(string(to, answer, &[2, 3]));
     to.values(answer, &sequence(strings));
 }
 
 // A slice of strings of one and of two octets in a SEQUENCE.
 fn pair(to: To, answer: &mut Answer) {
-    let pair = [string(to.alloc, &[1]), string(to.alloc, &[2, 3])];
+    let pair = [string(to, answer, &[1]), string(to, answer, &[2, 3])];
     to.values(answer, &sequence(pair.as_slice()));
 }
 
@@ -75,7 +76,7 @@ fn none(to: To, answer: &mut Answer) {
 
 // A tuple of twelve of two strings, with values that are missing.
 fn twelve(to: To, answer: &mut Answer) {
-    let (a, b) = (string(to.alloc, &[1]), string(to.alloc, &[2]));
+    let (a, b) = (string(to, answer, &[1]), string(to, answer, &[2]));
     twelve_of(to, answer, &a, &b);
     drop(a);
     drop(b);
@@ -257,7 +258,7 @@ fn refused(alloc: Global, answer: &mut Answer) {
 
 // Headers of a length that has length octets, and of one that is too long.
 fn headers(alloc: Global, answer: &mut Answer) {
-    let mut octets: Vec<u8> = Vec::new(alloc);
+    let mut octets: Vec<u8> = room_for(alloc, answer, 8);
     answer.show(&write_header(&mut octets, Tag::SEQUENCE, true, 300));
     answer.show(&write_header(&mut octets, Tag::SEQUENCE, true, BEYOND));
     answer.octets(octets.as_slice());

@@ -2,8 +2,10 @@
 
 use crate::integers::number;
 use crate::orders::order;
-use answers::{Answer, octets_of, word_at};
+use crate::parts::octets_told;
+use answers::{Answer, word_at};
 use bcder::decode::Primitive;
+use bcder::int::InvalidInteger;
 use bcder::{Integer, Mode, Unsigned};
 use bytes::Bytes;
 use std::alloc::{AllocError, Global};
@@ -109,12 +111,31 @@ fn of_integer(alloc: Global, answer: &mut Answer, octets: &[u8]) {
     }
 }
 
+// The number of octets; none where they have none. That memory ran out is told.
+fn natural(alloc: Global, answer: &mut Answer, octets: &[u8]) -> Option<Unsigned> {
+    match Unsigned::from_slice(alloc, octets) {
+        Ok(number) => Some(number),
+        Err(InvalidInteger::Invalid) => None,
+        Err(InvalidInteger::Memory) => {
+            answer.word("memory");
+            None
+        }
+    }
+}
+
+// How the numbers of octets stand to each other.
+fn ordered(alloc: Global, answer: &mut Answer, one: &[u8], other: &[u8]) {
+    let one = natural(alloc, answer, one);
+    let other = natural(alloc, answer, other);
+    order(answer, one.as_ref(), other.as_ref());
+}
+
 /// What is known of the number with octets, or of one of Rust's types; how two stand to each other.
 pub fn answer(alloc: Global, answer: &mut Answer, words: &[&str]) {
     let [call, word, others @ ..] = words else {
         return answer.unknown();
     };
-    let octets = octets_of(alloc, *word);
+    let octets = octets_told(alloc, answer, *word);
     let octets = octets.as_slice();
     match *call {
         "read" => read(alloc, answer, octets),
@@ -123,9 +144,8 @@ pub fn answer(alloc: Global, answer: &mut Answer, words: &[&str]) {
         "copied" => read_copied(alloc, answer, octets),
         "integer" => of_integer(alloc, answer, octets),
         "order" => {
-            let others = octets_of(alloc, word_at(others, 0));
-            let other = Unsigned::from_slice(alloc, others.as_slice());
-            order(answer, Unsigned::from_slice(alloc, octets), other);
+            let others = octets_told(alloc, answer, word_at(others, 0));
+            ordered(alloc, answer, octets, others.as_slice());
         }
         _ => from(alloc, answer, *word, word_at(others, 0)),
     }

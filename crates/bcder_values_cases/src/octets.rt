@@ -3,10 +3,10 @@
 ghost use Rattle.bcder_values_cases.specs.bcder_content.Either.{SameContent};
 
 use crate::orders::sign;
-use answers::{Answer, mode_of, octets_of};
+use crate::parts::{is_dry, octets_told, say_made, shared};
+use answers::{Answer, mode_of};
 use bcder::decode::{Constructed, Content, Decode, DecodeError, SliceSource};
 use bcder::{Mode, OctetString, Tag};
-use bytes::Bytes;
 use std::alloc::Global;
 use std::convert::Infallible;
 
@@ -14,9 +14,9 @@ type Values<'a> = Constructed<SliceSource<'a>>;
 
 type Refusal = DecodeError<Infallible>;
 
-/// The string of these octets; an empty one where there is no memory.
-pub fn string(alloc: Global, octets: &[u8]) -> OctetString {
-    OctetString::new(Bytes::copy_from_slice(alloc, octets).unwrap_or(Bytes::new()))
+/// The string of these octets; an empty one where memory ran out, which is told.
+pub fn string(alloc: Global, answer: &mut Answer, octets: &[u8]) -> OctetString {
+    OctetString::new(shared(alloc, answer, octets))
 }
 
 // The string that is next, with the tag [0] in place of its own, or where it may be missing: an empty one then.
@@ -33,6 +33,22 @@ fn take(alloc: Global, cons: &mut Values<'_>, call: &str) -> Result<OctetString,
     }
 }
 
+// Whether the octets of a string, one by one, are the string.
+fn gathered(alloc: Global, answer: &mut Answer, string: &OctetString) {
+    match string.octets().collect::<Vec<u8>>(alloc) {
+        Ok(octets) => answer.say(&string.is_slice(octets.as_slice())),
+        Err(_) => answer.word("memory"),
+    }
+}
+
+// The octets of a copy of a string.
+fn copied(answer: &mut Answer, string: &OctetString) {
+    match string.clone() {
+        Ok(copy) => answer.octets(copy.into_bytes().as_slice()),
+        Err(_) => answer.word("memory"),
+    }
+}
+
 // What is known of a string: its size, and its octets at once, piece by piece, one by one, shared, and of a copy.
 fn known(alloc: Global, answer: &mut Answer, string: &OctetString) {
     answer.say(&string.len());
@@ -42,11 +58,9 @@ fn known(alloc: Global, answer: &mut Answer, string: &OctetString) {
     for piece in string.iter() {
         answer.join_octets(piece);
     }
-    let octets: Vec<u8> = string.octets().collect(alloc).unwrap_or(Vec::new(alloc));
-    answer.say(&string.is_slice(octets.as_slice()));
-    answer.octets(string.to_bytes(alloc).unwrap_or(Bytes::new()).as_slice());
-    let copy = string.clone().unwrap_or(OctetString::default());
-    answer.octets(copy.into_bytes().as_slice());
+    gathered(alloc, answer, string);
+    say_made(answer, string.to_bytes(alloc));
+    copied(answer, string);
 }
 
 // What is known of a string that is read of octets by a call.
@@ -57,11 +71,17 @@ fn read(alloc: Global, answer: &mut Answer, mode: Mode, octets: &[u8], call: &st
     }
 }
 
-// The string of a content; and then what is left of the content, whatever became of the string.
+// The string of a content; and then what is left of the content, whatever became of the string, unless memory
+// ran out.
 fn string_and_rest(alloc: Global, content: &mut Content<'_, SliceSource<'_>>) -> Result<(), Refusal>
     ensures { SameContent content.old content.new }
 {
-    let _ = OctetString::from_content(alloc, content);
+    let string = OctetString::from_content(alloc, content);
+    let lacks_memory = is_dry(&string);
+    drop(string);
+    if lacks_memory {
+        return Err(DecodeError::Memory);
+    }
     content.constructed(|cons| cons.skip_all(alloc))
 }
 
@@ -75,17 +95,24 @@ fn next_and_rest(alloc: Global, cons: &mut Values<'_>) -> Result<(), Refusal> {
     )
 }
 
+// How the strings of octets stand to each other.
+fn ordered(alloc: Global, answer: &mut Answer, one: &[u8], other: &[u8]) {
+    let one = string(alloc, answer, one);
+    let other = string(alloc, answer, other);
+    answer.word(sign(&one, &other));
+}
+
 /// What is known of an octet string in front of octets, and how two stand to each other.
 pub fn answer(alloc: Global, answer: &mut Answer, words: &[&str]) {
     let [call, word, digits] = words else {
         return answer.unknown();
     };
-    let octets = octets_of(alloc, *digits);
+    let octets = octets_told(alloc, answer, *digits);
     let (octets, mode) = (octets.as_slice(), mode_of(*word));
     match *call {
         "order" => {
-            let one = string(alloc, octets_of(alloc, *word).as_slice());
-            answer.word(sign(&one, &string(alloc, octets)));
+            let one = octets_told(alloc, answer, *word);
+            ordered(alloc, answer, one.as_slice(), octets);
         }
         "goes-on" => answer.outcome(mode.decode(octets, |cons| next_and_rest(alloc, cons))),
         _ => read(alloc, answer, mode, octets, *call),

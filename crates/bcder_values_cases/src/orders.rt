@@ -23,15 +23,11 @@ pub fn sign<T: Ord + Hash>(one: &T, other: &T) -> &'static str {
 }
 
 /// How two values that were made stand to each other, or that one wasn't made.
-pub fn order<T: Ord + Hash + Drop, E: Drop>(
-    answer: &mut Answer,
-    one: Result<T, E>,
-    other: Result<T, E>,
-) {
+pub fn order<T: Ord + Hash>(answer: &mut Answer, one: Option<&T>, other: Option<&T>) {
     match (one, other) {
-        (Ok(one), Ok(other)) => {
-            answer.word(sign(&one, &other));
-            answer.show(&one.partial_cmp(&other));
+        (Some(one), Some(other)) => {
+            answer.word(sign(one, other));
+            answer.show(&one.partial_cmp(other));
         }
         _ => answer.word("refused"),
     }

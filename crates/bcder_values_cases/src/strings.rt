@@ -4,14 +4,14 @@ ghost use Rattle.bcder_values_cases.specs.bcder_content.Either.{SameContent};
 
 use crate::octets::string;
 use crate::orders::order;
-use answers::{Answer, mode_of, octets_of, word_at};
+use crate::parts::{is_dry, octets_told, room_for, say_made};
+use answers::{Answer, mode_of, word_at};
 use bcder::decode::{Constructed, Content, Decode, DecodeError, SliceSource, Source};
 use bcder::string::{
     CharSet, Ia5CharSet, NumericCharSet, PrintableCharSet, RestrictedString, RestrictedStringError,
     Utf8CharSet,
 };
 use bcder::{Mode, Tag};
-use bytes::Bytes;
 use std::alloc::Global;
 use std::convert::Infallible;
 use std::fmt::Debug;
@@ -38,7 +38,7 @@ fn copied<L: CharSet>(answer: &mut Answer, string: &RestrictedString<L>) {
 
 // The characters of a string.
 fn chars<L: CharSet>(alloc: Global, answer: &mut Answer, string: &RestrictedString<L>) {
-    let mut chars = Vec::new(alloc);
+    let mut chars = room_for(alloc, answer, string.len());
     for character in string.chars() {
         let _ = chars.push(u32::from(character));
     }
@@ -50,7 +50,7 @@ fn known<L: CharSet>(alloc: Global, answer: &mut Answer, string: &RestrictedStri
     answer.say(&string.len());
     answer.say(&string.is_empty());
     answer.octets(string.as_slice().unwrap_or(&[]));
-    answer.octets(string.to_bytes(alloc).unwrap_or(Bytes::new()).as_slice());
+    say_made(answer, string.to_bytes(alloc));
     copied(answer, string);
     chars(alloc, answer, string);
     answer.say(string);
@@ -114,14 +114,16 @@ fn two<L: CharSet, S: Source>(
     Ok([one, other])
 }
 
-// Goes on after a content, whether it was a string or not.
+// Goes on after a content, whether it was a string or not, but for lack of memory.
 fn string_or_not<L: CharSet>(
     alloc: Global,
     content: &mut Content<'_, SliceSource<'_>>,
 ) -> Result<(), Refusal>
     ensures { SameContent content.old content.new }
 {
-    let _ = RestrictedString::<L>::from_content(alloc, content);
+    if is_dry(&RestrictedString::<L>::from_content(alloc, content)) {
+        return Err(DecodeError::Memory);
+    }
     Ok(())
 }
 
@@ -144,15 +146,49 @@ fn of_octets<L: CharSet>(
     call: &str,
 ) {
     match call {
-        "new" => made(
-            alloc,
-            answer,
-            RestrictedString::<L>::new(string(alloc, octets)),
-        ),
+        "new" => {
+            let octets = string(alloc, answer, octets);
+            made(alloc, answer, RestrictedString::<L>::new(octets));
+        }
         "opt" => answer.outcome(mode.decode(octets, |cons| two::<L, _>(alloc, cons))),
         "goes-on" => answer.outcome(mode.decode(octets, |cons| goes_on::<L>(alloc, cons))),
         _ => read::<L>(alloc, answer, mode, octets, call),
     }
+}
+
+// The string of a text that is given away.
+fn given<L: CharSet>(alloc: Global, answer: &mut Answer, word: &str) {
+    match word.to_string(alloc) {
+        Ok(text) => made(
+            alloc,
+            answer,
+            RestrictedString::<L>::from_string(alloc, text),
+        ),
+        Err(_) => answer.word("memory"),
+    }
+}
+
+// The string of a text; none where it has other characters. That memory ran out is told.
+fn of_text<L: CharSet>(
+    alloc: Global,
+    answer: &mut Answer,
+    text: &str,
+) -> Option<RestrictedString<L>> {
+    match RestrictedString::<L>::from_str(alloc, text) {
+        Ok(string) => Some(string),
+        Err(RestrictedStringError::CharSet) => None,
+        Err(RestrictedStringError::Memory) => {
+            answer.word("memory");
+            None
+        }
+    }
+}
+
+// How the strings of texts stand to each other.
+fn ordered<L: CharSet>(alloc: Global, answer: &mut Answer, one: &str, other: &str) {
+    let one = of_text::<L>(alloc, answer, one);
+    let other = of_text::<L>(alloc, answer, other);
+    order(answer, one.as_ref(), other.as_ref());
 }
 
 // The answer of a set's strings.
@@ -163,20 +199,10 @@ fn of_set<L: CharSet>(alloc: Global, answer: &mut Answer, words: &[&str]) {
     let other = word_at(others, 0);
     match *call {
         "of" => made(alloc, answer, RestrictedString::<L>::from_str(alloc, *word)),
-        "given" => {
-            let text = word.to_string(alloc).unwrap_or(String::new(alloc));
-            made(
-                alloc,
-                answer,
-                RestrictedString::<L>::from_string(alloc, text),
-            );
-        }
-        "order" => {
-            let one = RestrictedString::<L>::from_str(alloc, *word);
-            order(answer, one, RestrictedString::<L>::from_str(alloc, other));
-        }
+        "given" => given::<L>(alloc, answer, *word),
+        "order" => ordered::<L>(alloc, answer, *word, other),
         _ => {
-            let octets = octets_of(alloc, other);
+            let octets = octets_told(alloc, answer, other);
             of_octets::<L>(alloc, answer, mode_of(*word), octets.as_slice(), *call);
         }
     }

@@ -1,6 +1,7 @@
 //! Character sets.
 
-use answers::{Answer, octets_of};
+use crate::parts::{octets_told, room_for};
+use answers::Answer;
 use bcder::string::{
     CharSet, CharSetError, Ia5CharSet, NumericCharSet, PrintableCharSet, Utf8CharSet,
 };
@@ -8,7 +9,7 @@ use std::alloc::Global;
 
 // The characters in front of octets, whether there is a next one that is refused, and whether the octets are a text.
 fn chars<C: CharSet>(alloc: Global, answer: &mut Answer, octets: &[u8]) {
-    let mut chars = Vec::new(alloc);
+    let mut chars = room_for(alloc, answer, octets.len());
     let mut rest = octets;
     for _ in 0..octets.len() {
         let Ok(Some((next, others))) = C::next_char(rest) else {
@@ -33,7 +34,10 @@ fn spelled<C: CharSet>(answer: &mut Answer, text: &str) {
 // The answer of a set: about octets or a text, or the tag of its strings and the text of its refusals.
 fn of_set<C: CharSet>(alloc: Global, answer: &mut Answer, call: &str, word: &str) {
     match call {
-        "chars" => chars::<C>(alloc, answer, octets_of(alloc, word).as_slice()),
+        "chars" => {
+            let octets = octets_told(alloc, answer, word);
+            chars::<C>(alloc, answer, octets.as_slice());
+        }
         "spelled" => spelled::<C>(answer, word),
         _ => {
             answer.say(&C::tag());

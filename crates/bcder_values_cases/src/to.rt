@@ -2,6 +2,7 @@
 
 ghost use Rattle.std.specs.Prelude.{Some};
 
+use crate::parts::{room_for, say_made};
 use answers::Answer;
 use bcder::encode::{PrimitiveContent, Values};
 use bcder::{Mode, Tag};
@@ -42,7 +43,7 @@ impl To {
     /// Says how many octets values have, the answer of writing them, and what the writer took.
     pub fn values<V: Values>(self, answer: &mut Answer, values: &V) {
         let mut target = Narrow {
-            taken: Vec::new(self.alloc),
+            taken: room_for(self.alloc, answer, self.room),
             room: self.room,
         };
         answer.show(&values.encoded_len(self.mode));

@@ -1,9 +1,10 @@
 //! Values that are written.
 
 use crate::integers::number;
+use crate::parts::octets_told;
 use crate::to::To;
 use crate::{encoders, lists, walks};
-use answers::{Answer, count_of, mode_of, octets_of};
+use answers::{Answer, count_of, mode_of};
 use bcder::encode::{Octets, PrimitiveContent, sequence};
 use bcder::{BitString, Mode, OctetString, Oid, Tag, Unsigned};
 use std::alloc::Global;
@@ -28,7 +29,10 @@ fn signed(to: To, answer: &mut Answer, kind: &str, word: &str) {
         "i32" => to.primitive(answer, &word.parse::<i32>().unwrap_or(0)),
         "i64" => to.primitive(answer, &word.parse::<i64>().unwrap_or(0)),
         "i128" => to.primitive(answer, &word.parse::<i128>().unwrap_or(0)),
-        _ => contents(to, answer, kind, octets_of(to.alloc, word).as_slice()),
+        _ => {
+            let octets = octets_told(to.alloc, answer, word);
+            contents(to, answer, kind, octets.as_slice());
+        }
     }
 }
 
