@@ -20,6 +20,12 @@ fn tell(answer: &mut Answer, written: Result<Captured, EncodeError>) {
     }
 }
 
+// What is written of a value in BER and in CER.
+fn tell_modes<V: Values>(alloc: Global, answer: &mut Answer, value: &V) {
+    tell(answer, value.to_captured(alloc, Mode::Ber));
+    tell(answer, value.to_captured(alloc, Mode::Cer));
+}
+
 // Whether an attestation has an address, and what is written of it in DER, in BER and in CER.
 fn roa(alloc: Global, answer: &mut Answer, octets: &[u8]) -> Result<()> {
     let Ok(content) = RouteOriginAttestation::decode(alloc, octets) else {
@@ -27,9 +33,8 @@ fn roa(alloc: Global, answer: &mut Answer, octets: &[u8]) -> Result<()> {
     };
     answer.say(&has_address(&content));
     tell(answer, content.to_octets(alloc));
-    let value = content.encode_ref();
-    tell(answer, value.to_captured(alloc, Mode::Ber));
-    tell(answer, value.to_captured(alloc, Mode::Cer));
+    tell_modes(alloc, answer, &content.encode_ref());
+    drop(content);
     Ok(())
 }
 
@@ -40,9 +45,8 @@ fn manifest(alloc: Global, answer: &mut Answer, octets: &[u8]) -> Result<()> {
     };
     answer.say(&has_file_names(&content));
     tell(answer, content.to_octets(alloc));
-    let value = content.encode_ref();
-    tell(answer, value.to_captured(alloc, Mode::Ber));
-    tell(answer, value.to_captured(alloc, Mode::Cer));
+    tell_modes(alloc, answer, &content.encode_ref());
+    drop(content);
     Ok(())
 }
 
@@ -56,16 +60,24 @@ pub fn answer(alloc: Global, answer: &mut Answer, words: &[&str]) -> Result<()> 
     }
 }
 
+// What is written of a listed file in DER, in BER and in CER.
+fn tell_file(alloc: Global, answer: &mut Answer, file: &FileAndHash<'_>) {
+    let value = file.encode_ref();
+    tell(answer, value.to_captured(alloc, Mode::Der));
+    tell_modes(alloc, answer, &value);
+}
+
+// Whether octets have a listed file's hash.
+fn tell_hash(answer: &mut Answer, file: &FileAndHash<'_>, octets: &[u8]) {
+    let listed = ManifestHash::new(file.hash(), DigestAlgorithm::default());
+    answer.say(&listed.verify(&Fips, octets).is_ok());
+}
+
 /// What is written of a listed file in DER, in BER and in CER, and whether octets have its hash.
 pub fn file(alloc: Global, answer: &mut Answer, words: &[&str]) {
     let hash = octets_of(alloc, word_at(words, 1));
     let octets = octets_of(alloc, word_at(words, 2));
     let file = FileAndHash::new(word_at(words, 0).as_bytes(), hash.as_slice());
-    let value = file.encode_ref();
-    tell(answer, value.to_captured(alloc, Mode::Der));
-    tell(answer, value.to_captured(alloc, Mode::Ber));
-    tell(answer, value.to_captured(alloc, Mode::Cer));
-    let listed = ManifestHash::new(file.hash(), DigestAlgorithm::default());
-    let verified = listed.verify(&Fips, octets.as_slice());
-    answer.say(&verified.is_ok());
+    tell_file(alloc, answer, &file);
+    tell_hash(answer, &file, octets.as_slice());
 }
