@@ -7,7 +7,7 @@ ghost use Rattle.objects_valid.specs.certs_extension.declared.forms.Role.TheVari
 ghost use Rattle.certs_verify.specs.certs_key.Digesting.{digests_of};
 ghost use Rattle.certs_verify.specs.Validated.{TellsNumbers};
 ghost use Rattle.objects_valid.specs.objects_payload.ObjectText.{Object};
-ghost use Rattle.objects_valid.specs.Accepted.{SparesMemory, ValidatesObject};
+ghost use Rattle.objects_valid.specs.Accepted.{SparesMemory, ValidatesContent, ValidatesObject};
 ghost use Rattle.objects_valid.specs.Processed.{CallableIfAccepted, ProcessesObject};
 
 use crate::kinds::SignedObject;
@@ -179,6 +179,32 @@ pub trait ProcessObject {
         ensures asked { V.count verifier.new ≤ V.count verifier.old + 2 };
 }
 
+// The certificate of an object of a repository with what it holds below the issuer, and the object's content; else the
+// first test that fails.
+fn accepted<D: Digester, V: Verifier>(
+    alloc: Global,
+    signed: SignedObject,
+    issuer: &ResourceCert,
+    strict: bool,
+    now: Time,
+    digester: &D,
+    verifier: &mut V,
+) -> Result<(ResourceCert, OctetString), ValidationError>
+    ensures validates { ValidatesContent
+        (digests_of D.sha256_digest D.sha1_digest digester.now) (V.says verifier.old)
+        strict Ee now issuer.now.holder signed signed.content result }
+    ensures tal { IfOk result (λ p. p.0.tal ≡ issuer.now.tal) }
+    ensures outside { IfErr result (TellsNumbers signed.cert (held_by issuer.now.holder)) }
+    ensures memory { IfErr result (SparesMemory
+        (V.count verifier.old) (V.count verifier.new)
+        (IsSignedAt (V.says verifier.old) now issuer.now.holder.cert signed.cert)) }
+    ensures same { V.says verifier.new ≡ V.says verifier.old }
+    ensures asked { V.count verifier.new ≤ V.count verifier.old + 2 }
+{
+    let form = signed.cert().inspect_ee(strict, digester);
+    inspected::validate(alloc, signed, form, issuer, strict, now, digester, verifier)
+}
+
 impl ProcessObject for SignedObject {
     ghost processed = { λ o. o };
 
@@ -191,10 +217,7 @@ impl ProcessObject for SignedObject {
         digester: &D,
         verifier: &mut V,
     ) -> Result<ResourceCert, ValidationError> {
-        let form = self.cert().inspect_ee(strict, digester);
-        let validated = inspected::validate(
-            alloc, self, form, issuer, strict, now, digester, verifier,
-        );
+        let validated = accepted(alloc, self, issuer, strict, now, digester, verifier);
         together::part(validated)
     }
 
@@ -224,8 +247,7 @@ impl ProcessObject for SignedObject {
         verifier: &mut V,
         check_crl: F,
     ) -> Result<(ResourceCert, OctetString), ValidationError> {
-        let form = self.cert().inspect_ee(strict, digester);
-        match inspected::validate(alloc, self, form, issuer, strict, now, digester, verifier) {
+        match accepted(alloc, self, issuer, strict, now, digester, verifier) {
             Ok((holder, content)) => {
                 let tested = caller::ask(check_crl, holder.as_cert());
                 together::join_if(holder, content, tested)

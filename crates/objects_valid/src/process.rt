@@ -5,15 +5,43 @@ ghost use Rattle.std.specs.Fn.{FnOnceReturnsAt, FnOnceTakesAt};
 ghost use Rattle.certs_verify.specs.certs_key.Digesting.{digests_of};
 ghost use Rattle.certs_verify.specs.Validated.{TellsNumbers};
 ghost use Rattle.objects_valid.specs.certs_extension.Verified.{IsSignedAt, held_by};
-ghost use Rattle.objects_valid.specs.Accepted.{SparesMemory};
+ghost use Rattle.objects_valid.specs.Accepted.{SparesMemory, ValidatesObject};
 ghost use Rattle.objects_valid.specs.Processed.{CallableAfter, ProcessesKind};
 
 use crate::attested::Attested;
-use crate::kinds::Signed;
+use crate::kinds::{Signed, SignedObject};
 use crate::{inspected, together};
 use certs_verify::{Cert, Digester, ResourceCert, ValidationError, Verifier};
 use certs_x509::errors::{Clock, Time};
 use std::alloc::Global;
+
+// The certificate of an object of that kind with what it holds below the issuer; else the first test that fails.
+fn accepted<T: Attested, D: Digester, V: Verifier>(
+    alloc: Global,
+    signed: SignedObject,
+    issuer: &ResourceCert,
+    strict: bool,
+    now: Time,
+    digester: &D,
+    verifier: &mut V,
+) -> Result<ResourceCert, ValidationError>
+    ensures validates { ValidatesObject
+        (digests_of D.sha256_digest D.sha1_digest digester.now) (V.says verifier.old)
+        strict T.role now issuer.now.holder signed result }
+    ensures tal { IfOk result (λ r. r.tal ≡ issuer.now.tal) }
+    ensures outside { IfErr result (TellsNumbers signed.cert (held_by issuer.now.holder)) }
+    ensures memory { IfErr result (SparesMemory
+        (V.count verifier.old) (V.count verifier.new)
+        (IsSignedAt (V.says verifier.old) now issuer.now.holder.cert signed.cert)) }
+    ensures same { V.says verifier.new ≡ V.says verifier.old }
+    ensures asked { V.count verifier.new ≤ V.count verifier.old + 2 }
+{
+    let form = T::inspect(signed.cert(), strict, digester);
+    let validated = inspected::validate(
+        alloc, signed, form, issuer, strict, now, digester, verifier,
+    );
+    together::part(validated)
+}
 
 /// What is processed is let go where it is refused. A call asks the verifier at most twice: for the content, then for the
 /// certificate. `strict` refuses UTF8Strings in names. `Memory` comes only where a growth of memory was refused, here or in
@@ -57,10 +85,8 @@ impl<T: Attested> Signed<T> {
         ensures asked { V.count verifier.new ≤ V.count verifier.old + 2 }
     {
         let (signed, content) = self.into_parts();
-        let form = T::inspect(signed.cert(), strict, digester);
-        match inspected::validate(alloc, signed, form, issuer, strict, now, digester, verifier) {
-            Ok((holder, octets)) => {
-                drop(octets);
+        match accepted::<T, D, V>(alloc, signed, issuer, strict, now, digester, verifier) {
+            Ok(holder) => {
                 let tested = content.test(alloc, &holder, check_crl);
                 together::join_if(holder, content, tested)
             }

@@ -7,19 +7,14 @@ use Rattle.objects_valid.specs.certs_extension.declared.forms.Role.TheVariants.{
 use Rattle.certs_verify.specs.certs_x509.declared.errors.validation.ValidationError.{ValidationError}
 use Rattle.certs_verify.specs.certs_key.Digesting.{digests_of}
 use Rattle.certs_verify.specs.Holders.{ResourceCertValue}
-use Rattle.certs_verify.specs.Validated.{Inspects, TellsNumbers}
+use Rattle.certs_verify.specs.Validated.{TellsNumbers}
 use Rattle.objects_valid.specs.Processed.{Answers, FailsAny, PassesAny, ProcessesObject, before_none}
-use Rattle.objects_valid.proofs.Accepting.{inspects_by}
 use Rattle.objects_valid.proofs.Processing.{callable_after, processed, processed_outside, processed_tal}
 use Rattle.objects_valid.proofs.Sparing.{issued_signed, spared_accepted}
 use Rattle.objects_valid.proofs.object.SignedObjectProcessObject.process_at.Goals as goal
 
 pub returns-in-Err-clause-processes : goal.returns-in-Err-clause-processes
-returns-in-Err-clause-processes g c =
-    let d = digests_of g.D.Digester.sha256_digest g.D.Digester.sha1_digest c.args.digester.now in
-    let o = c.args.self in
-    let form = subst (λ (x : CertValue). Inspects d c.args.strict Ee x c.inspect_ee-form.result) c.cert.ensures (inspects_by d c.args.strict Ee c.cert.result.now c.inspect_ee-form.result c.inspect_ee-form.ensures.passed c.inspect_ee-form.ensures.refused) in
-    inl (c.in-Err.ensures.validates Ee form)
+returns-in-Err-clause-processes g c = inl c.in-Err.ensures.validates
 
 pub returns-in-Ok-clause-processes : goal.returns-in-Ok-clause-processes
 returns-in-Ok-clause-processes g c =
@@ -28,8 +23,7 @@ returns-in-Ok-clause-processes g c =
     let o = c.args.self in
     let issuer = c.args.issuer.now.holder in
     let says = FnOnceReturnsAt g.F.FnOnce c.args.check_crl in
-    let form = subst (λ (x : CertValue). Inspects d c.args.strict Ee x c.inspect_ee-form.result) c.cert.ensures (inspects_by d c.args.strict Ee c.cert.result.now c.inspect_ee-form.result c.inspect_ee-form.ensures.passed c.inspect_ee-form.ensures.refused) in
-    let validated = c.in-Ok.ensures.validates Ee form in
+    let validated = c.in-Ok.ensures.validates in
     let holder = c.in-Ok.holder in
     let asked = subst (λ (x : CertValue). Answers (PassesAny (says x)) (FailsAny (says x)) holder.holder c.ask-tested.result) c.as_cert.ensures (c.ask-tested.ensures.answers holder.holder) in
     subst (ProcessesObject (says o.cert) d v c.args.strict c.args.now issuer o) (sym c.join_if.ensures)
@@ -51,16 +45,13 @@ pub ask-tested-requires : goal.ask-tested-requires
 ask-tested-requires g c =
     let d = digests_of g.D.Digester.sha256_digest g.D.Digester.sha1_digest c.args.digester.now in
     let o = c.args.self in
-    let form = subst (λ (x : CertValue). Inspects d c.args.strict Ee x c.inspect_ee-form.result) c.cert.ensures (inspects_by d c.args.strict Ee c.cert.result.now c.inspect_ee-form.result c.inspect_ee-form.ensures.passed c.inspect_ee-form.ensures.refused) in
     let takes = FnOnceTakesAt g.F.FnOnce c.args.check_crl in
     subst takes (sym c.as_cert.ensures)
-    (callable_after Ee before_none takes d (g.V.Verifier.says c.args.verifier.now) c.args.strict c.args.now c.args.issuer.now.holder o o o o c.in-Ok.holder.holder refl refl (c.in-Ok.ensures.validates Ee form).0 (λ h a u. c.requires h a) tt)
+    (callable_after Ee before_none takes d (g.V.Verifier.says c.args.verifier.now) c.args.strict c.args.now c.args.issuer.now.holder o o o o c.in-Ok.holder.holder refl refl c.in-Ok.ensures.validates.0 (λ h a u. c.requires h a) tt)
 
 pub returns-in-Ok-clause-memory : goal.returns-in-Ok-clause-memory
 returns-in-Ok-clause-memory g c =
-    let d = digests_of g.D.Digester.sha256_digest g.D.Digester.sha1_digest c.args.digester.now in
     let o = c.args.self in
     let issuer = c.args.issuer.now.holder in
-    let form = subst (λ (x : CertValue). Inspects d c.args.strict Ee x c.inspect_ee-form.result) c.cert.ensures (inspects_by d c.args.strict Ee c.cert.result.now c.inspect_ee-form.result c.inspect_ee-form.ensures.passed c.inspect_ee-form.ensures.refused) in
     spared_accepted _ _ _ c.in-Ok.content c.in-Ok.holder c.ask-tested.result _ c.join_if.ensures
-    (issued_signed (g.V.Verifier.says c.args.verifier.now) c.args.now issuer.cert (held_by issuer) o.cert (c.in-Ok.ensures.validates Ee form).0.issued)
+    (issued_signed (g.V.Verifier.says c.args.verifier.now) c.args.now issuer.cert (held_by issuer) o.cert c.in-Ok.ensures.validates.0.issued)
