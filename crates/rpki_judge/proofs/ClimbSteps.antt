@@ -1,5 +1,5 @@
 -- From what the parts answer to what a step answers.
-use Rattle.std.proofs.Common.{◌≡◌, ℕ, ◌+◌, ◌*◌, ◌≤◌, ◌<◌, ◌↔◌, Bool, true, false, List, [], ◌∷◌, ◌++◌, map, length, Option, Some, None, Result, Ok, Err, inl, inr, refl, sym, ap, subst, ◌∙◌, append_assoc, arith}
+use Rattle.std.proofs.Common.{◌≡◌, ℕ, ◌+◌, ◌*◌, ◌≤◌, ◌<◌, ◌↔◌, Bool, true, false, List, [], ◌∷◌, ◌++◌, map, length, Option, Some, None, MatchOption, Result, Ok, Err, inl, inr, refl, sym, ap, subst, ◌∙◌, append_assoc, arith}
 use Rattle.std.proofs.lemmas.List.{length-map}
 use Rattle.std.specs.Prelude.{IsTrue, IfOk, slice_get}
 use Rattle.rpki_judge.specs.resources_chain.Claims.{Lists}
@@ -140,19 +140,19 @@ pub object_read : {O : Type 0} (object : O → Object) (payload : O → Payload)
 object_read {O} object payload w ca p uri o f e h = subst (λ (i : Option O). IsReadObject object payload w ca p uri i) e h
 
 -- The object's certificate doesn't keep what it needs.
-pub not_kept : (w : World) (ca : Cert) (p : Point) (uri : List ℕ) (o : Object) (x : Payload) (c : Cert) (claims : Claims) (need : Resources) (b : Bool) → IsSigned w ca p uri o x → c ≡ o.cert → AreClaims c claims → IsNeed (Needs x) need → IsTrue b ↔ KeepsAll claims need → b ≡ false → (o' : Object) (x' : Payload) → IsSigned w ca p uri o' x' → ¬ (KeepsNeed o'.cert (Needs x'))
-not_kept w ca p uri o x c claims need b is ce are sets h n o' x' is' k =
+not_kept : (w : World) (ca : Cert) (p : Point) (uri : List ℕ) (o : Object) (x : Payload) (c : Cert) (claims : Claims) (need : Resources) → IsSigned w ca p uri o x → c ≡ o.cert → AreClaims c claims → IsNeed (Needs x) need → ¬ (KeepsAll claims need) → (o' : Object) (x' : Payload) → IsSigned w ca p uri o' x' → ¬ (KeepsNeed o'.cert (Needs x'))
+not_kept w ca p uri o x c claims need is ce are sets n o' x' is' k =
     let s = one_signed w ca p uri o' o x' x is' is in
     let g : KeepsNeed o.cert (Needs x) = subst (λ (y : Payload). KeepsNeed o.cert (Needs y)) s.1 (subst (λ (y : Object). KeepsNeed y.cert (Needs x')) s.0 k) in
     let q : KeepsNeed c (Needs x) = subst (λ (y : Cert). KeepsNeed y (Needs x)) (sym ce) g in
-    refused (λ (z : KeepsNeed c (InSet need)). h.1 (kept_from c claims are need z)) n (λ k' m i. q k' m (((sets k').same m).0 i))
+    n (kept_from c claims are need (λ k' m i. q k' m (((sets k').same m).0 i)))
 
 need_swapped : (c : Cert) (p : Point) (one two : Kind → ℕ → Type 0) (higher : Resources) → ((k : Kind) (n : ℕ) → one k n ↔ two k n) → IsNeed (NeedAt c p one) higher → IsNeed (NeedAt c p two) higher
 need_swapped c p one two higher f h k =
     let s = h k in
     record { maximal = s.maximal; same = λ n. (λ i. at_less c p two one k (λ m. (f k m).0) n ((s.same n).0 i), λ i. (s.same n).1 (at_less c p one two k (λ m. (f k m).1) n i)) }
 
-pub need_of_file : (w : World) (ca : Cert) (p : Point) (uri : List ℕ) (o : Object) (x : Payload) (c m : Cert) (claims manifest : Claims) (need higher : Resources) → IsSigned w ca p uri o x → c ≡ o.cert → AreClaims c claims → IsNeed (Needs x) need → KeepsAll claims need → AreClaims m manifest → m ≡ p.object.cert → IsNeedAt claims manifest need higher → IsNeedOfFile w ca p uri (Some higher)
+need_of_file : (w : World) (ca : Cert) (p : Point) (uri : List ℕ) (o : Object) (x : Payload) (c m : Cert) (claims manifest : Claims) (need higher : Resources) → IsSigned w ca p uri o x → c ≡ o.cert → AreClaims c claims → IsNeed (Needs x) need → KeepsAll claims need → AreClaims m manifest → m ≡ p.object.cert → IsNeedAt claims manifest need higher → IsNeedOfFile w ca p uri (Some higher)
 need_of_file w ca p uri o x c m claims manifest need higher is ce are sets kept other me h =
     let own : AreClaims o.cert claims = subst (λ (y : Cert). AreClaims y claims) ce are in
     let its : AreClaims p.object.cert manifest = subst (λ (y : Cert). AreClaims y manifest) me other in (
@@ -162,6 +162,12 @@ need_of_file w ca p uri o x c m claims manifest need higher is ce are sets kept 
       λ k n i. kept_to o.cert claims own need kept k n (((sets k).same n).1 i),
       need_swapped o.cert p (InSet need) (Needs x) higher (λ k n. (sets k).same n) (need_is o.cert claims own p.object.cert manifest its need higher h),
     )
+
+-- What is found to be needed above, where the certificate keeps it.
+pub need_found : {E : Type 0} (w : World) (ca : Cert) (p : Point) (uri : List ℕ) (o : Object) (x : Payload) (c m : Cert) (claims manifest : Claims) (need : Resources) → IsSigned w ca p uri o x → c ≡ o.cert → AreClaims c claims → IsNeed (Needs x) need → AreClaims m manifest → m ≡ p.object.cert → (r : Result (Option Resources) E) → IfOk r (λ found. MatchOption found (¬ (KeepsAll claims need)) (λ higher. KeepsAll claims need × IsNeedAt claims manifest need higher)) → IfOk r (IsNeedOfFile w ca p uri)
+need_found w ca p uri o x c m claims manifest need is ce are sets other me (Ok None) n = not_kept w ca p uri o x c claims need is ce are sets n
+need_found w ca p uri o x c m claims manifest need is ce are sets other me (Ok (Some higher)) k = need_of_file w ca p uri o x c m claims manifest need higher is ce are sets k.0 other me k.1
+need_found w ca p uri o x c m claims manifest need is ce are sets other me (Err e) n = n
 
 -- At the chain's end.
 pub no_point_judged : {C P : Type 0} (cert : C → Cert) (point : P → Point) (w : World) (name : List ℕ) (links : List (Code C)) (l : Code C) (rest : List (Code C)) (uri : List ℕ) (f : Option P) (j : Judgement) → links ≡ l ∷ rest → f ≡ None → j ≡ record { yes = false; points = 0 } → IsReadPoint point w (cert l.cert) f → IsJudgedAt w name (links_of cert links) uri j

@@ -150,10 +150,13 @@ pub fn climb<E: Evidence>(
     let Some(point) = evidence.read_point(alloc, &upper.cert)? else {
         return Ok(Judgement::no(0));
     };
-    let Some(higher) = raised(alloc, evidence, &upper.cert, &point, lower, needed)? else {
+    let found = raised(alloc, evidence, &upper.cert, &point, lower, needed);
+    drop(point);
+    let Some(higher) = found? else {
         return Ok(Judgement::no(1));
     };
-    drop(point);
-    let judged = climb(alloc, evidence, locator, rest, &higher)?;
+    let climbed = climb(alloc, evidence, locator, rest, &higher);
+    drop(higher);
+    let judged = climbed?;
     Ok(judged.with_point())
 }

@@ -1,13 +1,14 @@
 //! What is judged of a witness.
 
-ghost use Rattle.std.specs.Prelude.{◌≡◌, ◌+◌, ◌≤◌, ◌<◌, IfOk, length, false};
+ghost use Rattle.std.specs.Prelude.{◌≡◌, ◌+◌, ◌≤◌, ◌<◌, IfOk, MatchOption, length, false};
 ghost use Rattle.rpki_rules.specs.Judge.{IsJudged, may_ask};
 ghost use Rattle.rpki_rules.specs.Points.{files};
+ghost use Rattle.rpki_judge.specs.Needed.{IsNeedAt, KeepsAll};
 ghost use Rattle.rpki_judge.specs.Climbing.{links_of, AreAt, IsJudgedAt, IsNeedOfFile};
 ghost use Rattle.rpki_judge.specs.Counted.{ReadsPoints, may_ask_reading};
 
 use crate::climb::{Link, are_distinct, climb, read_chain};
-use crate::{Evidence, Needed};
+use crate::{Claims, Evidence, Needed};
 use bytes::Bytes;
 use std::alloc::{AllocError, Global};
 
@@ -41,6 +42,24 @@ impl Judgement {
     }
 }
 
+// What is needed above a certificate with these claims, where it keeps what is needed of it.
+fn above_kept(
+    alloc: Global,
+    needed: &Needed,
+    claims: Claims,
+    manifest: Claims,
+) -> Result<Option<Needed>, AllocError>
+    ensures { IfOk result (λ found. MatchOption found (¬ (KeepsAll claims.entry needed.now))
+        (λ higher. KeepsAll claims.entry needed.now
+        × IsNeedAt claims.entry manifest.entry needed.now higher)) }
+{
+    if !needed.are_kept(claims) {
+        return Ok(None);
+    }
+    let higher = needed.above(alloc, claims, manifest)?;
+    Ok(Some(higher))
+}
+
 // What is needed at the chain's end by the object at a file of its point, where its certificate keeps it.
 fn needed_by<E: Evidence>(
     alloc: Global,
@@ -59,14 +78,19 @@ fn needed_by<E: Evidence>(
     let Some(signed) = evidence.read_object(alloc, ca, point, object)? else {
         return Ok(None);
     };
-    let needed = evidence.needs(alloc, &signed)?;
+    let needed = match evidence.needs(alloc, &signed) {
+        Ok(needed) => needed,
+        Err(error) => {
+            drop(signed);
+            return Err(error);
+        }
+    };
     let claims = evidence.claims(evidence.object_cert(&signed));
-    if !needed.are_kept(claims) {
-        return Ok(None);
-    }
     let manifest = evidence.claims(evidence.manifest_cert(point));
-    let higher = needed.above(alloc, claims, manifest)?;
-    Ok(Some(higher))
+    let higher = above_kept(alloc, &needed, claims, manifest);
+    drop(needed);
+    drop(signed);
+    higher
 }
 
 // The judgement on an object, by the certificates of its chain, the last first.
@@ -92,10 +116,14 @@ fn judge_links<E: Evidence>(
     let Some(point) = evidence.read_point(alloc, &last.cert)? else {
         return Ok(Judgement::no(0));
     };
-    let Some(needed) = needed_by(alloc, evidence, &last.cert, &point, object)? else {
+    let found = needed_by(alloc, evidence, &last.cert, &point, object);
+    drop(point);
+    let Some(needed) = found? else {
         return Ok(Judgement::no(1));
     };
-    let judged = climb(alloc, evidence, locator, links, &needed)?;
+    let climbed = climb(alloc, evidence, locator, links, &needed);
+    drop(needed);
+    let judged = climbed?;
     Ok(judged.with_point())
 }
 
