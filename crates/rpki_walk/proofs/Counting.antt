@@ -1,5 +1,5 @@
 -- What a walk counts at a chain, at the files of its point, and at locators.
-use Rattle.std.proofs.Common.{◌≡◌, ◌⊎◌, ◌↔◌, ◌<◌, ◌≤◌, ◌+◌, ℕ, zero, suc, Bool, true, false, IsTrue, cond, filter, List, [], ◌∷◌, length, take, get_or, Option, Some, unwrap_or, refl, sym, ap, subst, ◌∙◌, inl, inr, arith}
+use Rattle.std.proofs.Common.{◌≡◌, ◌⊎◌, ◌↔◌, ◌<◌, ◌≤◌, ◌+◌, ℕ, zero, suc, Bool, true, false, IsTrue, cond, filter, List, [], ◌∷◌, length, take, get_or, Option, None, Some, MatchOption, unwrap_or, refl, sym, ap, subst, ◌∙◌, inl, inr, arith}
 use Rattle.std.proofs.lemmas.List.Sums.{length-filter, count_by-le-length}
 use Rattle.rpki_walk.specs.resources.Resources.{Resources}
 use Rattle.rpki_rules.specs.Certs.{Cert}
@@ -14,7 +14,7 @@ use Rattle.rpki_rules.proofs.Readings.{one_cert_at, one_point}
 use Rattle.rpki_rules.proofs.Fronts.{accepted_front}
 use Rattle.rpki_walk.specs.Facts.{Stand, Classified}
 use Rattle.rpki_walk.specs.Cost.{Chain, above, goes_below, how_many}
-use Rattle.rpki_walk.specs.Tallied.{Adds, Begins, BeginsAt, CountsFrom, IsTally, Tallies, some_count, told}
+use Rattle.rpki_walk.specs.Tallied.{Adds, Begins, BeginsAt, CountsFrom, GoesNowhere, GoesOn, IsTally, Tallies, some_count, told}
 use Rattle.rpki_walk.specs.declared.chains.Outcome.{Outcome}
 use Rattle.rpki_walk.specs.declared.chains.Outcome.TheVariants as Does
 use Rattle.rpki_walk.specs.declared.cost.tally.Tally.{Tally}
@@ -126,14 +126,25 @@ pub stands_back : (w : World) (name : List ℕ) (a : Link) (cs : List Link) (on 
 stands_back w name a cs on uri ca sets st p s = subst (λ (l : Cert). StandsIn w (InSet sets) l p) (sym st.ca_is) (stands_to (Holds a cs) (InSet sets) (λ k n. (st.holds k n).1) w (last_of a cs).cert p s)
 
 -- Which certificates go on with a file that is none of an authority below.
-ends_of : {A P : Type 0} (cert : A → Cert) (sets : A → Resources) (payload : P → Payload) (w : World) (held : Kind → ℕ → Type 0) (ca : Cert) (p : Point) (on : List (List ℕ)) (file : List ℕ) (o : Outcome A P) → ((x : A) (k : List ℕ) → ¬ (o ≡ Does.Child x k)) → Classified cert sets payload w held ca p on file o → (c : Cert) → IsIssued w held ca p file c → Mem on c.tbs.subject_key_identifier ⊎ (w.depth ≤ length on)
+pub ends_of : {A P : Type 0} (cert : A → Cert) (sets : A → Resources) (payload : P → Payload) (w : World) (held : Kind → ℕ → Type 0) (ca : Cert) (p : Point) (on : List (List ℕ)) (file : List ℕ) (o : Outcome A P) → ((x : A) (k : List ℕ) → ¬ (o ≡ Does.Child x k)) → Classified cert sets payload w held ca p on file o → (c : Cert) → IsIssued w held ca p file c → Mem on c.tbs.subject_key_identifier ⊎ (w.depth ≤ length on)
 ends_of cert sets payload w held ca p on file Does.Nothing n cl c i = absurd (ignored_issued w held ca p file cl c i)
 ends_of cert sets payload w held ca p on file (Does.Refused why) n cl c i = refused_ends w held on ca p file why cl c i
 ends_of cert sets payload w held ca p on file (Does.Attests x) n cl c i = absurd (good_issued w held ca p file (payload x) cl c i)
 ends_of cert sets payload w held ca p on file (Does.Child x k) n cl c i = absurd (n x k refl)
 
+-- What a file that is one of an authority below says of the longer chain.
+pub goes_on_with : {A P : Type 0} (cert : A → Cert) (sets : A → Resources) (payload : P → Payload) (w : World) (held : Kind → ℕ → Type 0) (ca : Cert) (p : Point) (on : List (List ℕ)) (file : List ℕ) (o : Outcome A P) (child : A) (key : List ℕ) → o ≡ Does.Child child key → Classified cert sets payload w held ca p on file o → (more : List (List ℕ)) → more ≡ key ∷ on → GoesOn cert sets w held ca p on file child more
+goes_on_with {A} {P} cert sets payload w held ca p on file o child key e cl more em =
+    let k = subst (λ (q : Outcome A P). Classified cert sets payload w held ca p on file q) e cl in
+    (k.0, subst (λ (u : List ℕ). ¬ (Mem on u)) k.1 k.2, k.3, k.4, em ∙ ap (λ (u : List ℕ). u ∷ on) k.1)
+
+-- Where nothing is found, what is said of nothing holds.
+pub at_none : {T : Type 0} (N : Type 0) (S : T → Type 0) (o : Option T) → ((x : T) → ¬ (o ≡ Some x)) → MatchOption o N S → N
+at_none N S None n m = m
+at_none N S (Some x) n m = absurd (n x refl)
+
 -- What is done with a file, and which chains go on with it.
-module _ {A P : Type 0} (cert : A → Cert) (sets : A → Resources) (payload : P → Payload) (w w' : World) (same : w' ≡ w) (name : List ℕ) (a : Link) (cs : List Link) (on : List (List ℕ)) (uri : List ℕ) (ca : Cert) (csets : Resources) (st : Stand name a cs (record { locator = name; chain = places a cs }) on uri ca csets) (p p0 : Point) (s : StandsIn w (InSet csets) ca p) (s0 : StandsIn w (InSet csets) ca p0) (file : List ℕ) (acc : Accepted w name a cs) (o : Outcome A P) (cl : Classified cert sets payload w' (InSet csets) ca p0 on file o) where
+module _ {A P : Type 0} (cert : A → Cert) (sets : A → Resources) (payload : P → Payload) (w w' : World) (same : w' ≡ w) (name : List ℕ) (a : Link) (cs : List Link) (on : List (List ℕ)) (uri : List ℕ) (ca : Cert) (csets : Resources) (st : Stand name a cs (record { locator = name; chain = places a cs }) on uri ca csets) (p p0 : Point) (s : StandsIn w (InSet csets) ca p) (s0 : StandsIn w (InSet csets) ca p0) (file : List ℕ) (acc : Accepted w name a cs) where
   stands : Stands w a cs p
   stands = stands_by w name a cs on uri ca csets st p s
 
@@ -149,13 +160,13 @@ module _ {A P : Type 0} (cert : A → Cert) (sets : A → Resources) (payload : 
       subst (λ (r : Point). IsIssued w (Holds a cs) (last_of a cs).cert r file c) e (record { extension = d.3.file.extension; reads = d.3.file.reads; child = d.3.child })
 
   -- None, where it is no authority's below.
-  pub no_chain : ((x : A) (k : List ℕ) → ¬ (o ≡ Does.Child x k)) → (c : Chain) → ¬ (BeginsAt w name a cs file c)
+  pub no_chain : GoesNowhere w' (InSet csets) ca p0 on file → (c : Chain) → ¬ (BeginsAt w name a cs file c)
   no_chain n c b =
       let h = goes_with c b in
-      no_longer cert sets payload w w' same name a cs on uri ca csets st p p0 s s0 file (ends_of cert sets payload w' (InSet csets) ca p0 on file o n cl) b.0 (issued_of b.0 h) h
+      no_longer cert sets payload w w' same name a cs on uri ca csets st p p0 s s0 file n b.0 (issued_of b.0 h) h
 
   -- Where it is, those that go on with its certificate.
-  module _ (child : A) (key : List ℕ) (e : o ≡ Does.Child child key) where
+  module _ (o : Outcome A P) (cl : Classified cert sets payload w' (InSet csets) ca p0 on file o) (child : A) (key : List ℕ) (e : o ≡ Does.Child child key) where
     abbrev next : Link
     next = record { uri = file; cert = cert child }
 
@@ -174,3 +185,9 @@ module _ {A P : Type 0} (cert : A → Cert) (sets : A → Resources) (payload : 
         (goes_on cert sets payload w w' same name a cs on uri ca csets st p p0 s s0 file acc o child key e cl listed more em)
         seen tally (λ c b. unseen c (cert child, b)) in
         tallies_same (Begins w name a (next ∷ cs)) (BeginsAt w name a cs file) seen new whole t (λ c b. (cert child, b)) one_child
+
+  -- So it is where a chain goes on with a certificate, by whatever key that has.
+  pub next_counted : (child : A) → Mem (files ca p0.manifest) file → (more : List (List ℕ)) → GoesOn cert sets w' (InSet csets) ca p0 on file child more → (v : World) → v ≡ w → (up : List (List ℕ)) → up ≡ above a (record { uri = file; cert = cert child } ∷ cs) → (mid new : Tally) (whole : Bool) → CountsFrom v up more file (cert child) (sets child) mid new whole → (seen : List Chain) → IsTally mid seen → ((c : Chain) → BeginsAt w name a cs file c → ¬ (Mem seen c)) → Tallies (BeginsAt w name a cs file) seen new whole
+  next_counted child listed more g v ev up eu mid new whole counts seen tally unseen =
+      let key = (cert child).tbs.subject_key_identifier in
+      child_counted (Does.Child child key) (g.0, refl, g.1, g.2, g.3) child key refl listed more g.4 v ev up eu mid new whole counts seen tally unseen

@@ -1,5 +1,5 @@
 -- What a walk has counted so far.
-use Rattle.std.specs.Prelude.{◌≡◌, ◌⊎◌, ◌≤◌, ◌+◌, ◌↔◌, ℕ, zero, suc, Bool, false, IsTrue, cond, List, [], ◌∷◌, length, Option, Some, None, bytes_eq}
+use Rattle.std.specs.Prelude.{◌≡◌, ◌⊎◌, ◌≤◌, ◌<◌, ◌+◌, ◌↔◌, ℕ, zero, suc, Bool, false, IsTrue, cond, List, [], ◌∷◌, length, Option, Some, None, bytes_eq}
 use Rattle.std.specs.BTreeMap.{BTreeMap, get}
 use Rattle.std.specs.Cmp.Lexicographic.{slice_cmp}
 use Rattle.std.specs.List.{list_any}
@@ -8,12 +8,14 @@ use Rattle.std.specs.Ordering.{nat_cmp}
 use Rattle.rpki_walk.specs.resources.Resources.{Resources}
 use Rattle.rpki_walk.specs.rpki_bundle.declared.parts.Locator.{Locator}
 use Rattle.rpki_rules.specs.Certs.{Cert}
+use Rattle.rpki_rules.specs.Kinds.{Kind}
 use Rattle.rpki_rules.specs.Words.{Mem, NoRepeat}
 use Rattle.rpki_rules.specs.World.{World}
-use Rattle.rpki_rules.specs.Points.{Link}
+use Rattle.rpki_rules.specs.Points.{Link, Point}
 use Rattle.rpki_rules.specs.Chains.{places, IsFront, Accepted}
+use Rattle.rpki_rules.specs.Refused.{IsIssued}
 use Rattle.rpki_walk.specs.Facts.{Stand}
-use Rattle.rpki_walk.specs.Repository.{LeadsTo}
+use Rattle.rpki_walk.specs.Repository.{HasKept, LeadsTo}
 use Rattle.rpki_walk.specs.Cost.{Chain, CountValue, IsAccepted, above, how_many}
 use Rattle.rpki_walk.specs.declared.cost.tally.Tally.{Tally}
 
@@ -90,3 +92,18 @@ CountsFrom w up on uri ca sets old new whole =
     (name : List ℕ) (a : Link) (cs : List Link)
     → Stand name a cs (record { locator = name; chain = places a cs }) on uri ca sets
     → up ≡ above a cs → Accepted w name a cs → Counts (Begins w name a cs) old new whole
+
+-- No chain with these keys goes on with the file: each certificate of an authority that it is has
+-- one of the keys, or the chain is as long as a chain may be.
+abbrev pub GoesNowhere : World → (Kind → ℕ → Type 0) → Cert → Point → List (List ℕ) → List ℕ → Type 0
+GoesNowhere w held ca p on uri =
+    (c : Cert) → IsIssued w held ca p uri c
+    → Mem on c.tbs.subject_key_identifier ⊎ (w.depth ≤ length on)
+
+-- A chain with these keys goes on with the certificate that the file is, and has more keys then.
+abbrev pub GoesOn : {A : Type 0} → (A → Cert) → (A → Resources) → World
+    → (Kind → ℕ → Type 0) → Cert → Point → List (List ℕ) → List ℕ → A → List (List ℕ) → Type 0
+GoesOn cert sets w held ca p on uri child more =
+    IsIssued w held ca p uri (cert child) × ¬ (Mem on (cert child).tbs.subject_key_identifier)
+    × (length on < w.depth) × HasKept held (cert child) (sets child)
+    × (more ≡ (cert child).tbs.subject_key_identifier ∷ on)

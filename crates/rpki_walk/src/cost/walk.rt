@@ -1,9 +1,11 @@
 //! The walk from chains to longer ones, each counted, as long as the budget lasts.
 
-ghost use Rattle.std.specs.Prelude.{◌≡◌, ◌<◌, ◌≤◌, ◌↔◌, ◌∷◌, [], ℕ, List, length, IfOk};
+ghost use Rattle.std.specs.Prelude.{◌≡◌, ◌<◌, ◌≤◌, ◌↔◌, ◌∷◌, [], ℕ, List, length, IfOk, MatchOption};
 ghost use Rattle.rpki_rules.specs.Words.{Mem, NoRepeat};
+ghost use Rattle.rpki_rules.specs.Kinds.{InSet};
+ghost use Rattle.rpki_rules.specs.Points.{files};
 ghost use Rattle.rpki_walk.specs.Repository.{locator_at};
-ghost use Rattle.rpki_walk.specs.Tallied.{Counts, CountsFrom, IsOf};
+ghost use Rattle.rpki_walk.specs.Tallied.{Counts, CountsFrom, GoesNowhere, GoesOn, IsOf};
 
 use crate::chains::{Outcome, classify, with_first};
 use crate::cost::tally::Tally;
@@ -23,6 +25,42 @@ fn each_once(alloc: Global, keys: &[Bytes]) -> Result<Vec<Bytes>, AllocError>
     }
     sort_once(&mut all)?;
     Ok(all)
+}
+
+// The certificate of an authority that a file is, where a chain with these keys goes on with it, and the keys of that longer
+// chain, the last first.
+fn next_at<S: Repository>(
+    alloc: Global,
+    repository: &mut S,
+    ca: &S::Authority,
+    p: &S::Point,
+    keys: &[Bytes],
+    file: &Bytes,
+) -> Result<Option<(S::Authority, Vec<Bytes>)>, AllocError>
+    requires { Mem (files (S.cert ca.now) (S.point p.now).manifest) file.now }
+    ensures next { IfOk result (λ found. MatchOption found
+        (GoesNowhere (S.world repository.old) (InSet (S.sets ca.now)) (S.cert ca.now)
+        (S.point p.now) keys.now file.now)
+        (λ two. GoesOn S.cert S.sets (S.world repository.old) (InSet (S.sets ca.now))
+        (S.cert ca.now) (S.point p.now) keys.now file.now two.0 two.1.items)) }
+    ensures same { S.world repository.new ≡ S.world repository.old }
+    ensures lender { S.lender repository.new ≡ S.lender repository.old }
+{
+    match classify(alloc, repository, ca, p, keys, file.as_slice())? {
+        Outcome::Nothing => Ok(None),
+        Outcome::Refused(_why) => Ok(None),
+        Outcome::Attests(payload) => {
+            drop(payload);
+            Ok(None)
+        }
+        Outcome::Child(child, key) => match with_first(alloc, key, keys) {
+            Ok(more) => Ok(Some((child, more))),
+            Err(error) => {
+                drop(child);
+                Err(error)
+            }
+        },
+    }
 }
 
 /// Counts an accepted chain and all longer ones, until the budget is spent: by the lookup keys of the authorities above its
@@ -50,17 +88,15 @@ pub(crate) fn count_from<S: Repository>(
         return Ok(true);
     };
     let files = each_once(alloc, repository.uris(ca, &point))?;
-    let below = with_first(alloc, uri, above)?;
+    let below = with_first(alloc, uri.clone()?, above)?;
     for file in &files {
-        match classify(alloc, repository, ca, &point, keys, file.as_slice())? {
-            Outcome::Nothing => {}
-            Outcome::Refused(_why) => {}
-            Outcome::Attests(_payload) => {}
-            Outcome::Child(child, key) => {
-                let more = with_first(alloc, &key, keys)?;
-                if !count_from(alloc, repository, tally, &below, &more, file, &child)? {
-                    return Ok(false);
-                }
+        if let Some((child, more)) = next_at(alloc, repository, ca, &point, keys, file)? {
+            let counted = count_from(alloc, repository, tally, &below, &more, file, &child);
+            drop(child);
+            drop(more);
+            let all = counted?;
+            if !all {
+                return Ok(false);
             }
         }
     }

@@ -5,8 +5,8 @@ ghost use Rattle.rpki_rules.specs.Words.{Mem};
 ghost use Rattle.rpki_rules.specs.Kinds.{InSet};
 ghost use Rattle.rpki_rules.specs.Points.{files};
 ghost use Rattle.rpki_rules.specs.Views.{path_of};
-ghost use Rattle.rpki_rules.specs.Diagnoses.{DiagnosesEnd, TellsEnd};
-ghost use Rattle.rpki_rules.specs.DiagnosisViews.{diagnosis_of};
+ghost use Rattle.rpki_rules.specs.Diagnoses.{DiagnosesEnd, TellsEnd, on_chain};
+ghost use Rattle.rpki_rules.specs.DiagnosisViews.{diagnosis_of, numbers_of, reason_of, unheld_of};
 ghost use Rattle.rpki_walk.specs.Diagnosed.{Adds, DiagnosesAt, IsOnly, TellsAt, has_diagnosed, told_of, IsDiagnosed};
 
 use crate::diagnosis::asked::Diagnosing;
@@ -21,6 +21,31 @@ use std::rc::Rc;
 #[derive(Drop)]
 pub(crate) struct Judged {
     pub(crate) found: Vec<Diagnosis>,
+}
+
+// Copies of a name and of a chain.
+fn copies(name: &Bytes, path: &Rc<Path>) -> Result<(Bytes, Rc<Path>), AllocError>
+    ensures name { IfOk result (λ two. two.0 ≡ name.now) }
+    ensures path { IfOk result (λ two. path_of two.1.value ≡ path_of path.now.value) }
+{
+    let name = name.clone()?;
+    let path = path.clone()?;
+    Ok((name, path))
+}
+
+// What has this name is refused on this chain for this reason.
+fn new_diagnosis(name: &Bytes, path: &Rc<Path>, reason: Reason) -> Result<Diagnosis, AllocError>
+    ensures value { IfOk result (λ d. diagnosis_of d
+        ≡ on_chain (path_of path.now.value) name.now (reason_of reason)) }
+    ensures unheld { IfOk result (λ d. unheld_of d ≡ numbers_of reason) }
+{
+    match copies(name, path) {
+        Ok((own, chain)) => Ok(Diagnosis::new(own, chain, reason)),
+        Err(error) => {
+            drop(reason);
+            Err(error)
+        }
+    }
 }
 
 // What is wrong with a file of a point, if anything is.
@@ -45,11 +70,10 @@ fn judged_file<S: Diagnosing>(
 {
     match repository.file_reason(alloc, ca, point, keys, file.as_slice())? {
         None => Ok(None),
-        Some(reason) => Ok(Some(Diagnosis::new(
-            file.clone()?,
-            path.clone()?,
-            Reason::File(reason),
-        ))),
+        Some(reason) => {
+            let wrong = new_diagnosis(file, path, Reason::File(reason))?;
+            Ok(Some(wrong))
+        }
     }
 }
 
@@ -104,9 +128,13 @@ fn judge_end<S: Diagnosing>(
     ensures lender { S.lender repository.new ≡ S.lender repository.old }
 {
     match repository.judged_point(alloc, ca)? {
-        Ok(point) => judge_files(alloc, repository, found, path, keys, ca, &point),
+        Ok(point) => {
+            let judged = judge_files(alloc, repository, found, path, keys, ca, &point);
+            drop(point);
+            judged
+        }
         Err(reason) => {
-            let wrong = Diagnosis::new(uri.clone()?, path.clone()?, Reason::Point(reason));
+            let wrong = new_diagnosis(uri, path, Reason::Point(reason))?;
             found.push(wrong)?;
             Ok(())
         }

@@ -6,17 +6,38 @@ ghost use Rattle.rpki_rules.specs.Words.{Mem, NoRepeat};
 ghost use Rattle.rpki_rules.specs.Diagnoses.{DiagnosesLocator};
 ghost use Rattle.rpki_rules.specs.declared.reason.diagnosis.Diagnosis.{Diagnosis};
 ghost use Rattle.rpki_rules.specs.DiagnosisViews.{AreDiagnoses, diagnosis_of, unheld_of};
+ghost use Rattle.rpki_rules.specs.Views.{path_of};
 ghost use Rattle.rpki_walk.specs.Repository.{locator_at};
 ghost use Rattle.rpki_walk.specs.Diagnosed.{Adds, IsOfLocator, IsOnly};
 
 use crate::anchors::walk_all;
 use crate::diagnosis::asked::Diagnosing;
 use crate::diagnosis::judged::Judged;
+use bytes::Bytes;
 use rpki_rules::Path;
 use rpki_rules::reason::{Diagnosis, Reason};
 use rpki_rules::sorted::sort_once;
 use std::alloc::{AllocError, Global};
 use std::rc::Rc;
+
+// The name of the locator at that place, and the chain of none of its certificates.
+fn named_locator<S: Diagnosing>(
+    alloc: Global,
+    repository: &S,
+    at: usize,
+) -> Result<(Bytes, Rc<Path>), AllocError>
+    requires { at < length (S.world repository.now).locators }
+    ensures name { IfOk result (λ two. two.0
+        ≡ (locator_at (S.world repository.now) at).name) }
+    ensures path { IfOk result (λ two. path_of two.1.value ≡ record {
+      locator = (locator_at (S.world repository.now) at).name;
+      chain = [];
+    }) }
+{
+    let name = repository.locator_name(at)?;
+    let path = Rc::new(alloc, Path::of_locator(alloc, name.clone()?))?;
+    Ok((name, path))
+}
 
 // What is wrong with the locator at that place, if anything is.
 fn judged_locator<S: Diagnosing>(
@@ -33,11 +54,13 @@ fn judged_locator<S: Diagnosing>(
 {
     match repository.locator_reason(alloc, at)? {
         None => Ok(None),
-        Some(reason) => {
-            let name = repository.locator_name(at)?;
-            let path = Rc::new(alloc, Path::of_locator(alloc, name.clone()?))?;
-            Ok(Some(Diagnosis::new(name, path, Reason::Locator(reason))))
-        }
+        Some(reason) => match named_locator(alloc, repository, at) {
+            Ok((name, path)) => Ok(Some(Diagnosis::new(name, path, Reason::Locator(reason)))),
+            Err(error) => {
+                drop(reason);
+                Err(error)
+            }
+        },
     }
 }
 

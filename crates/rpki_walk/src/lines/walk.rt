@@ -178,10 +178,17 @@ pub(crate) fn lines_from<S: Naming>(
         match classify_met(alloc, repository, ca, &point, keys, met, file.as_slice())? {
             Outcome::Nothing => {}
             Outcome::Refused(cause) => walk.lines.refuse(file, cause)?,
-            Outcome::Attests(payload) => walk.lines.show(repository, &payload)?,
+            Outcome::Attests(payload) => {
+                let shown = walk.lines.show(repository, &payload);
+                drop(payload);
+                shown?;
+            }
             Outcome::Child(child, key) => {
-                let more = with_first(alloc, &key, keys)?;
-                let since = lines_from(alloc, repository, walk, &more, file, &child)?;
+                let more = with_first(alloc, key, keys)?;
+                let walked = lines_from(alloc, repository, walk, &more, file, &child);
+                drop(more);
+                drop(child);
+                let since = walked?;
                 from = from.min(since);
             }
         }

@@ -13,7 +13,7 @@ use Rattle.rpki_walk.specs.Facts.{Finding, Refuses, ShownBy, ReachedBy, Gains, F
 use Rattle.rpki_walk.proofs.Mems.{mem_get_or, gains_same, gains_next}
 use Rattle.rpki_walk.proofs.Findings.{read_none, read_some, none_here, all_here, arm_nothing, arm_refused, arm_attests, arm_child}
 use Rattle.rpki_walk.proofs.chains.+walk_from.Goals as goal
-use Rattle.rpki_walk.proofs.chains.+walk_from.Goals.{in-Nothing, in-Refused+in_ok-refuse-in-Refused, in-Attests+in_ok-show-in-Attests, in-Child+in_ok-longer-in-Child+in_ok-longer-in-Child-2+in_ok-more-in-Child+in_ok-walk_from-in-Child}
+use Rattle.rpki_walk.proofs.chains.+walk_from.Goals.{in-Nothing, in-Refused+in_ok-refuse-in-Refused, in-Attests+in_ok-show-in-Attests, in-Child+in_ok-longer-in-Child+in_ok-walked-in-Child}
 
 -- At the file itself.
 moved_refuse : (wants old new : Finding → Type 0) (u v : List ℕ) (why : Cause) → u ≡ v → Gains wants old (λ x. Refuses u why ≡ x) new → Gains wants old (λ x. Refuses v why ≡ x) new
@@ -89,18 +89,18 @@ loop-file-preserved g t c =
             (arm_attests g.S.Repository.cert g.S.Repository.sets g.S.Repository.payload wants uris w w1 inv.same name a cs path on uri ca csets st acc p p0 s s0 file o cl v.in-Attests.payload v.in-Attests.is old _
             (moved_show wants old _ path (g.S.Repository.payload v.in-Attests.payload) d file c.file-item.is v.in_ok-show-in-Attests.ensures.gained)));
       }
-      | in-Child+in_ok-longer-in-Child+in_ok-longer-in-Child-2+in_ok-more-in-Child+in_ok-walk_from-in-Child v ↦ record {
-        same = ap (λ q. g.S.Repository.world q) v.repository-is ∙ (v.in_ok-walk_from-in-Child.ensures.same ∙ (c.in_ok-classify.ensures.same ∙ inv.same));
-        lender = ap (λ q. g.S.Repository.lender q) v.repository-is ∙ (v.in_ok-walk_from-in-Child.ensures.lender ∙ (c.in_ok-classify.ensures.lender ∙ inv.lender));
-        kept = ap (λ q. g.V.Visitor.uris q) v.visitor-is ∙ (v.in_ok-walk_from-in-Child.ensures.kept ∙ inv.kept);
+      | in-Child+in_ok-longer-in-Child+in_ok-walked-in-Child v ↦ record {
+        same = ap (λ q. g.S.Repository.world q) v.repository-is ∙ (v.walk_from-walked.ensures.same ∙ (c.in_ok-classify.ensures.same ∙ inv.same));
+        lender = ap (λ q. g.S.Repository.lender q) v.repository-is ∙ (v.walk_from-walked.ensures.lender ∙ (c.in_ok-classify.ensures.lender ∙ inv.lender));
+        kept = ap (λ q. g.V.Visitor.uris q) v.visitor-is ∙ (v.walk_from-walked.ensures.kept ∙ inv.kept);
         gained = λ name a cs p st acc s. subst (λ q. Gains wants first (λ x. ReachedBy uris w held on path uri ca x ⊎ ((u : List ℕ) × Mem (take (i + 1) fs) u × FromFile uris w name a cs p u x)) (g.V.Visitor.has q)) (sym v.visitor-is)
             (gains_next wants first old _ (ReachedBy uris w held on path uri ca) (FromFile uris w name a cs p) fs i d c.loop-file-test.true (inv.gained name a cs p st acc s)
             (arm_child g.S.Repository.cert g.S.Repository.sets g.S.Repository.payload wants uris w w1 inv.same name a cs path on uri ca csets st acc p p0 s s0 file o cl v.in-Child.child v.in-Child.key v.in-Child.is m
-            (path_of v.in_ok-longer-in-Child-2.longer.value) v.deref.result.now
-            (ap path_of v.in_ok-longer-in-Child-2.ensures.ok ∙ (v.in_ok-longer-in-Child.ensures ∙ λ j. record { locator = (path_of (v.as_ref.ensures j)).locator; chain = (path_of (v.as_ref.ensures j)).chain ++ c.file-item.is j ∷ [] }))
-            (v.deref.ensures.value ∙ v.in_ok-more-in-Child.ensures)
+            (path_of v.in_ok-longer-in-Child.longer.value) v.deref.result.now
+            (v.in_ok-longer-in-Child.ensures.path ∙ λ j. record { locator = path.locator; chain = path.chain ++ c.file-item.is j ∷ [] })
+            (v.deref.ensures.value ∙ v.in_ok-longer-in-Child.ensures.keys)
             (g.S.Repository.world c.classify.new.repository) (c.in_ok-classify.ensures.same ∙ inv.same) old _
-            (moved_walk wants old _ (g.S.Repository.world c.classify.new.repository) (path_of v.in_ok-longer-in-Child-2.longer.value) v.deref.result.now (g.S.Repository.cert v.in-Child.child) (g.S.Repository.sets v.in-Child.child) (g.V.Visitor.uris c.loop-file.visitor) uris inv.kept d file c.file-item.is v.in_ok-walk_from-in-Child.ensures.facts)));
+            (moved_walk wants old _ (g.S.Repository.world c.classify.new.repository) (path_of v.in_ok-longer-in-Child.longer.value) v.deref.result.now (g.S.Repository.cert v.in-Child.child) (g.S.Repository.sets v.in-Child.child) (g.V.Visitor.uris c.loop-file.visitor) uris inv.kept d file c.file-item.is (rw v.in_ok-walked-in-Child.is at v.walk_from-walked.ensures.facts))));
       }
     ]
 

@@ -1,25 +1,27 @@
-use Rattle.std.proofs.Common.{◌≡◌, ◌↔◌, ◌∷◌, ◌+◌, ℕ, Bool, true, false, List, take, take_all, get_or, sym, ap, subst, ◌∙◌}
+use Rattle.std.proofs.Common.{◌≡◌, ◌↔◌, ◌∷◌, ◌+◌, ℕ, Bool, true, false, Option, MatchOption, Vec, List, take, take_all, get_or, sym, ap, subst, ◌∙◌}
 use Rattle.rpki_walk.specs.resources.Resources.{Resources}
 use Rattle.rpki_rules.specs.Certs.{Cert}
-use Rattle.rpki_rules.specs.Kinds.{InSet}
+use Rattle.rpki_rules.specs.Kinds.{InSet, Kind}
 use Rattle.rpki_rules.specs.Words.{Mem, NoRepeat}
 use Rattle.rpki_rules.specs.World.{World}
-use Rattle.rpki_rules.specs.Points.{files}
+use Rattle.rpki_rules.specs.Points.{files, Point}
 use Rattle.rpki_rules.specs.Chains.{StandsIn}
-use Rattle.rpki_walk.specs.Facts.{Classified}
-use Rattle.rpki_walk.specs.Tallied.{BeginsAt, CountsFrom, Tallies}
+use Rattle.rpki_walk.specs.Tallied.{BeginsAt, CountsFrom, GoesNowhere, GoesOn, Tallies}
 use Rattle.rpki_walk.specs.declared.cost.tally.Tally.{Tally}
 use Rattle.rpki_walk.proofs.Mems.{mem_get_or}
 use Rattle.rpki_walk.proofs.Findings.{read_none, read_some}
 use Rattle.rpki_walk.proofs.Begins.{here}
-use Rattle.rpki_walk.proofs.Counting.{add_first, add_over, all_files, alone, child_counted, file_fresh, no_chain, stands_back, stands_by}
+use Rattle.rpki_walk.proofs.Counting.{add_first, add_over, all_files, alone, at_none, file_fresh, next_counted, no_chain, stands_back, stands_by}
 use Rattle.rpki_walk.proofs.Tallies.{UpTo, tallies_cut, tallies_next, tallies_none}
 use Rattle.rpki_walk.proofs.cost.walk.+count_from.Goals as goal
-use Rattle.rpki_walk.proofs.cost.walk.+count_from.Goals.{in-Nothing, in-Refused, in-Attests, in-Child+in_ok-more-in-Child+in_ok-count_from-in-Child+else-not-branch-2}
+use Rattle.rpki_walk.proofs.cost.walk.+count_from.Goals.{in_default, in-Some-2+in_ok-all+else-not-all}
 
 -- At the file itself.
 moved_counts : (w : World) (up on : List (List ℕ)) (ca : Cert) (sets : Resources) (old new : Tally) (u v : List ℕ) → u ≡ v → (b c : Bool) → b ≡ c → CountsFrom w up on u ca sets old new b → CountsFrom w up on v ca sets old new c
 moved_counts w up on ca sets old new u v e b c f h = subst (λ (x : List ℕ). CountsFrom w up on x ca sets old new c) e (subst (λ (x : Bool). CountsFrom w up on u ca sets old new x) f h)
+
+moved_next : {A : Type 0} (cert : A → Cert) (sets : A → Resources) (w : World) (held : Kind → ℕ → Type 0) (ca : Cert) (p : Point) (on : List (List ℕ)) (u v : List ℕ) → u ≡ v → (child : A) (more others : List (List ℕ)) → others ≡ more → GoesOn cert sets w held ca p on u child more → GoesOn cert sets w held ca p on v child others
+moved_next cert sets w held ca p on u v e child more others f n = subst (λ (ms : List (List ℕ)). GoesOn cert sets w held ca p on v child ms) (sym f) (subst (λ (x : List ℕ). GoesOn cert sets w held ca p on x child more) e n)
 
 -- The files that are gone over are the point's.
 same_files : (fs items us gs : List (List ℕ)) → fs ≡ items → ((key : List ℕ) → Mem items key ↔ Mem us key) → us ≡ gs → (u : List ℕ) → Mem fs u ↔ Mem gs u
@@ -50,11 +52,11 @@ loop-file-init g t c = record {
       add_first (g.S.Repository.world c.args.repository.now) name a cs acc c.args.tally.now c.add.new.self c.in_ok-add.field-0 c.if-not-branch.false c.in_ok-add.ensures.room c.args.above.now c.in_ok-add.ensures.added c.in_ok-add.ensures.budget eu seen k unseen;
 }
 
-pub classify-requires : goal.classify-requires
-classify-requires g t c =
+pub next_at-requires : goal.next_at-requires
+next_at-requires g t c =
     let fs = c.deref-file-items.result.now in let i = c.loop-file.file-index in let d = c.file-item.result in
     let gs = files (g.S.Repository.cert c.args.ca.now) (g.S.Repository.point c.in-Some.point).manifest in
-    let e : get_or fs i d ≡ c.as_slice.result.now = sym (c.as_slice.ensures ∙ c.file-item.is) in
+    let e : get_or fs i d ≡ c.file-item.result = sym c.file-item.is in
     let same = same_files fs c.in_ok-files.files.items c.uris.result.now gs c.deref-file-items.ensures.value c.in_ok-files.ensures.same c.uris.ensures in
     subst (λ (u : List ℕ). Mem gs u) e ((same (get_or fs i d)).0 (mem_get_or fs i d c.loop-file-test.true))
 
@@ -72,65 +74,46 @@ loop-file-preserved g t c =
     let l = c.loop-file-test.true in
     let p0 = g.S.Repository.point c.in-Some.point in
     let s0 : StandsIn w held ca p0 = read_some g.S.Repository.point w held ca c.in_ok-point.field-0 c.in-Some.point c.in-Some.is c.in_ok-point.ensures.read in
-    let o = c.in_ok-classify.field-0 in
-    let cl : Classified g.S.Repository.cert g.S.Repository.sets g.S.Repository.payload w1 held ca p0 on file o = subst (λ (u : List ℕ). Classified g.S.Repository.cert g.S.Repository.sets g.S.Repository.payload w1 held ca p0 on u o) (c.as_slice.ensures ∙ c.file-item.is) c.in_ok-classify.ensures.class in
+    let o = c.in_ok-next_at.field-0 in
+    let nowhere = GoesNowhere w1 held ca p0 on c.file-item.result in
+    let goes = λ (two : g.S.Repository.Authority × Vec (List ℕ)). GoesOn g.S.Repository.cert g.S.Repository.sets w1 held ca p0 on c.file-item.result two.0 two.1.items in
     let same = same_files fs c.in_ok-files.files.items c.uris.result.now (files ca p0.manifest) c.deref-file-items.ensures.value c.in_ok-files.ensures.same c.uris.ensures in
     let once : NoRepeat fs = subst NoRepeat (sym c.deref-file-items.ensures.value) c.in_ok-files.ensures.apart in
     let m : Mem (files ca p0.manifest) file = (same file).0 (mem_get_or fs i d l) in
     let mid = c.loop-file.tally in
     elim c.match-branch-7.branch [
-      | in-Nothing v ↦ record {
-        same = ap (λ q. g.S.Repository.world q) v.repository-is ∙ (c.in_ok-classify.ensures.same ∙ inv.same);
-        lender = ap (λ q. g.S.Repository.lender q) v.repository-is ∙ (c.in_ok-classify.ensures.lender ∙ inv.lender);
+      | in_default v ↦ record {
+        same = ap (λ q. g.S.Repository.world q) v.repository-is ∙ (c.in_ok-next_at.ensures.same ∙ inv.same);
+        lender = ap (λ q. g.S.Repository.lender q) v.repository-is ∙ (c.in_ok-next_at.ensures.lender ∙ inv.lender);
         budget = ap (λ (q : Tally). q.budget) v.tally-is ∙ inv.budget;
         counted = λ name a cs st eu acc seen k unseen. let u = inv.counted name a cs st eu acc seen k unseen in
             subst (λ (q : Tally). Tallies (UpTo (λ x. here w name a cs ≡ x) (BeginsAt w name a cs) (take (i + 1) fs)) seen q true) (sym v.tally-is)
             (tallies_next (λ x. here w name a cs ≡ x) (BeginsAt w name a cs) fs i d l seen mid u mid
             (tallies_none (BeginsAt w name a cs file) u.chains mid
-            (no_chain g.S.Repository.cert g.S.Repository.sets g.S.Repository.payload w w1 inv.same name a cs on uri ca csets st p0 p0 s0 s0 file acc o cl (λ x y e. let f = sym v.in-Nothing.is ∙ e in absurd cc))
+            (no_chain g.S.Repository.cert g.S.Repository.sets g.S.Repository.payload w w1 inv.same name a cs on uri ca csets st p0 p0 s0 s0 file acc
+            (subst (λ (u : List ℕ). GoesNowhere w1 held ca p0 on u) c.file-item.is (at_none nowhere goes o v.in_default.not-Some c.in_ok-next_at.ensures.next)))
             u.tally));
       }
-      | in-Refused v ↦ record {
-        same = ap (λ q. g.S.Repository.world q) v.repository-is ∙ (c.in_ok-classify.ensures.same ∙ inv.same);
-        lender = ap (λ q. g.S.Repository.lender q) v.repository-is ∙ (c.in_ok-classify.ensures.lender ∙ inv.lender);
-        budget = ap (λ (q : Tally). q.budget) v.tally-is ∙ inv.budget;
+      | in-Some-2+in_ok-all+else-not-all v ↦ record {
+        same = ap (λ q. g.S.Repository.world q) v.repository-is ∙ (v.count_from-counted.ensures.same ∙ (c.in_ok-next_at.ensures.same ∙ inv.same));
+        lender = ap (λ q. g.S.Repository.lender q) v.repository-is ∙ (v.count_from-counted.ensures.lender ∙ (c.in_ok-next_at.ensures.lender ∙ inv.lender));
+        budget = ap (λ (q : Tally). q.budget) v.tally-is ∙ (v.count_from-counted.ensures.budget ∙ inv.budget);
         counted = λ name a cs st eu acc seen k unseen. let u = inv.counted name a cs st eu acc seen k unseen in
-            subst (λ (q : Tally). Tallies (UpTo (λ x. here w name a cs ≡ x) (BeginsAt w name a cs) (take (i + 1) fs)) seen q true) (sym v.tally-is)
-            (tallies_next (λ x. here w name a cs ≡ x) (BeginsAt w name a cs) fs i d l seen mid u mid
-            (tallies_none (BeginsAt w name a cs file) u.chains mid
-            (no_chain g.S.Repository.cert g.S.Repository.sets g.S.Repository.payload w w1 inv.same name a cs on uri ca csets st p0 p0 s0 s0 file acc o cl (λ x y e. let f = sym v.in-Refused.is ∙ e in absurd cc))
-            u.tally));
-      }
-      | in-Attests v ↦ record {
-        same = ap (λ q. g.S.Repository.world q) v.repository-is ∙ (c.in_ok-classify.ensures.same ∙ inv.same);
-        lender = ap (λ q. g.S.Repository.lender q) v.repository-is ∙ (c.in_ok-classify.ensures.lender ∙ inv.lender);
-        budget = ap (λ (q : Tally). q.budget) v.tally-is ∙ inv.budget;
-        counted = λ name a cs st eu acc seen k unseen. let u = inv.counted name a cs st eu acc seen k unseen in
-            subst (λ (q : Tally). Tallies (UpTo (λ x. here w name a cs ≡ x) (BeginsAt w name a cs) (take (i + 1) fs)) seen q true) (sym v.tally-is)
-            (tallies_next (λ x. here w name a cs ≡ x) (BeginsAt w name a cs) fs i d l seen mid u mid
-            (tallies_none (BeginsAt w name a cs file) u.chains mid
-            (no_chain g.S.Repository.cert g.S.Repository.sets g.S.Repository.payload w w1 inv.same name a cs on uri ca csets st p0 p0 s0 s0 file acc o cl (λ x y e. let f = sym v.in-Attests.is ∙ e in absurd cc))
-            u.tally));
-      }
-      | in-Child+in_ok-more-in-Child+in_ok-count_from-in-Child+else-not-branch-2 v ↦ record {
-        same = ap (λ q. g.S.Repository.world q) v.repository-is ∙ (v.in_ok-count_from-in-Child.ensures.same ∙ (c.in_ok-classify.ensures.same ∙ inv.same));
-        lender = ap (λ q. g.S.Repository.lender q) v.repository-is ∙ (v.in_ok-count_from-in-Child.ensures.lender ∙ (c.in_ok-classify.ensures.lender ∙ inv.lender));
-        budget = ap (λ (q : Tally). q.budget) v.tally-is ∙ (v.in_ok-count_from-in-Child.ensures.budget ∙ inv.budget);
-        counted = λ name a cs st eu acc seen k unseen. let u = inv.counted name a cs st eu acc seen k unseen in
-            let n = child_counted g.S.Repository.cert g.S.Repository.sets g.S.Repository.payload w w1 inv.same name a cs on uri ca csets st p0 p0 s0 s0 file acc o cl v.in-Child.child v.in-Child.key v.in-Child.is m
-            v.deref-in-Child.result.now (v.deref-in-Child.ensures.value ∙ v.in_ok-more-in-Child.ensures)
-            (g.S.Repository.world c.classify.new.repository) (c.in_ok-classify.ensures.same ∙ inv.same)
-            v.deref.result.now (v.deref.ensures.value ∙ (c.in_ok-below.ensures ∙ λ j. st.uri_is j ∷ eu j))
-            mid v.count_from.new.tally true
-            (moved_counts (g.S.Repository.world c.classify.new.repository) v.deref.result.now v.deref-in-Child.result.now (g.S.Repository.cert v.in-Child.child) (g.S.Repository.sets v.in-Child.child) mid v.count_from.new.tally d file c.file-item.is v.in_ok-count_from-in-Child.field-0 true v.if-not-branch-2.false v.in_ok-count_from-in-Child.ensures.facts)
+            let goes_on = moved_next g.S.Repository.cert g.S.Repository.sets w1 held ca p0 on d file c.file-item.is v.in-Some-2.child _ v.deref-in-Some-2.result.now v.deref-in-Some-2.ensures.value (subst (λ (q : Option _). MatchOption q nowhere goes) v.in-Some-2.is c.in_ok-next_at.ensures.next) in
+            let n = next_counted g.S.Repository.cert g.S.Repository.sets g.S.Repository.payload w w1 inv.same name a cs on uri ca csets st p0 p0 s0 s0 file acc v.in-Some-2.child m
+            v.deref-in-Some-2.result.now goes_on
+            (g.S.Repository.world c.next_at.new.repository) (c.in_ok-next_at.ensures.same ∙ inv.same)
+            v.deref.result.now (v.deref.ensures.value ∙ (c.in_ok-below.ensures ∙ λ j. (c.in_ok-clone.ensures.cases ∙ st.uri_is) j ∷ eu j))
+            mid v.count_from-counted.new.tally true
+            (moved_counts (g.S.Repository.world c.next_at.new.repository) v.deref.result.now v.deref-in-Some-2.result.now (g.S.Repository.cert v.in-Some-2.child) (g.S.Repository.sets v.in-Some-2.child) mid v.count_from-counted.new.tally d file c.file-item.is v.in_ok-all.all true v.if-not-all.false (rw v.in_ok-all.is at v.count_from-counted.ensures.facts))
             u.chains u.tally (file_fresh w name a cs acc fs i d l once seen mid u unseen) in
             subst (λ (q : Tally). Tallies (UpTo (λ x. here w name a cs ≡ x) (BeginsAt w name a cs) (take (i + 1) fs)) seen q true) (sym v.tally-is)
-            (tallies_next (λ x. here w name a cs ≡ x) (BeginsAt w name a cs) fs i d l seen mid u v.count_from.new.tally n);
+            (tallies_next (λ x. here w name a cs ≡ x) (BeginsAt w name a cs) fs i d l seen mid u v.count_from-counted.new.tally n);
       }
     ]
 
-pub returns-then-not-branch-2-clause-facts : goal.returns-then-not-branch-2-clause-facts
-returns-then-not-branch-2-clause-facts g t c name a cs st eu acc seen k unseen =
+pub returns-then-not-all-clause-facts : goal.returns-then-not-all-clause-facts
+returns-then-not-all-clause-facts g t c name a cs st eu acc seen k unseen =
     let w = g.S.Repository.world c.args.repository.now in
     let w1 = g.S.Repository.world c.loop-file.repository in
     let csets = g.S.Repository.sets c.args.ca.now in
@@ -143,23 +126,25 @@ returns-then-not-branch-2-clause-facts g t c name a cs st eu acc seen k unseen =
     let l = c.loop-file-test.true in
     let p0 = g.S.Repository.point c.in-Some.point in
     let s0 : StandsIn w held ca p0 = read_some g.S.Repository.point w held ca c.in_ok-point.field-0 c.in-Some.point c.in-Some.is c.in_ok-point.ensures.read in
-    let o = c.in_ok-classify.field-0 in
-    let cl : Classified g.S.Repository.cert g.S.Repository.sets g.S.Repository.payload w1 held ca p0 on file o = subst (λ (u : List ℕ). Classified g.S.Repository.cert g.S.Repository.sets g.S.Repository.payload w1 held ca p0 on u o) (c.as_slice.ensures ∙ c.file-item.is) c.in_ok-classify.ensures.class in
+    let o = c.in_ok-next_at.field-0 in
+    let nowhere = GoesNowhere w1 held ca p0 on c.file-item.result in
+    let goes = λ (two : g.S.Repository.Authority × Vec (List ℕ)). GoesOn g.S.Repository.cert g.S.Repository.sets w1 held ca p0 on c.file-item.result two.0 two.1.items in
     let same = same_files fs c.in_ok-files.files.items c.uris.result.now (files ca p0.manifest) c.deref-file-items.ensures.value c.in_ok-files.ensures.same c.uris.ensures in
     let once : NoRepeat fs = subst NoRepeat (sym c.deref-file-items.ensures.value) c.in_ok-files.ensures.apart in
     let m : Mem (files ca p0.manifest) file = (same file).0 (mem_get_or fs i d l) in
     let mid = c.loop-file.tally in
     let u = inv.counted name a cs st eu acc seen k unseen in
-    let n = child_counted g.S.Repository.cert g.S.Repository.sets g.S.Repository.payload w w1 inv.same name a cs on uri ca csets st p0 p0 s0 s0 file acc o cl c.in-Child.child c.in-Child.key c.in-Child.is m
-    c.deref-in-Child.result.now (c.deref-in-Child.ensures.value ∙ c.in_ok-more-in-Child.ensures)
-    (g.S.Repository.world c.classify.new.repository) (c.in_ok-classify.ensures.same ∙ inv.same)
-    c.deref.result.now (c.deref.ensures.value ∙ (c.in_ok-below.ensures ∙ λ j. st.uri_is j ∷ eu j))
-    mid c.count_from.new.tally false
-    (moved_counts (g.S.Repository.world c.classify.new.repository) c.deref.result.now c.deref-in-Child.result.now (g.S.Repository.cert c.in-Child.child) (g.S.Repository.sets c.in-Child.child) mid c.count_from.new.tally d file c.file-item.is c.in_ok-count_from-in-Child.field-0 false c.if-not-branch-2.true c.in_ok-count_from-in-Child.ensures.facts)
+    let goes_on = moved_next g.S.Repository.cert g.S.Repository.sets w1 held ca p0 on d file c.file-item.is c.in-Some-2.child _ c.deref-in-Some-2.result.now c.deref-in-Some-2.ensures.value (subst (λ (q : Option _). MatchOption q nowhere goes) c.in-Some-2.is c.in_ok-next_at.ensures.next) in
+    let n = next_counted g.S.Repository.cert g.S.Repository.sets g.S.Repository.payload w w1 inv.same name a cs on uri ca csets st p0 p0 s0 s0 file acc c.in-Some-2.child m
+    c.deref-in-Some-2.result.now goes_on
+    (g.S.Repository.world c.next_at.new.repository) (c.in_ok-next_at.ensures.same ∙ inv.same)
+    c.deref.result.now (c.deref.ensures.value ∙ (c.in_ok-below.ensures ∙ λ j. (c.in_ok-clone.ensures.cases ∙ st.uri_is) j ∷ eu j))
+    mid c.count_from-counted.new.tally false
+    (moved_counts (g.S.Repository.world c.next_at.new.repository) c.deref.result.now c.deref-in-Some-2.result.now (g.S.Repository.cert c.in-Some-2.child) (g.S.Repository.sets c.in-Some-2.child) mid c.count_from-counted.new.tally d file c.file-item.is c.in_ok-all.all false c.if-not-all.true (rw c.in_ok-all.is at c.count_from-counted.ensures.facts))
     u.chains u.tally (file_fresh w name a cs acc fs i d l once seen mid u unseen) in
-    let cut = tallies_cut (λ x. here w name a cs ≡ x) (BeginsAt w name a cs) fs i d l seen mid u c.count_from.new.tally n in
+    let cut = tallies_cut (λ x. here w name a cs ≡ x) (BeginsAt w name a cs) fs i d l seen mid u c.count_from-counted.new.tally n in
     let there = λ (f : List ℕ). subst (λ (q : Cert). Mem fs f ↔ Mem (files q p0.manifest) f) st.ca_is (same f) in
-    all_files w name a cs acc p0 (stands_by w name a cs on uri ca csets st p0 s0) fs (λ f. (there f).0) (λ f. (there f).1) c.count_from.new.tally seen false cut
+    all_files w name a cs acc p0 (stands_by w name a cs on uri ca csets st p0 s0) fs (λ f. (there f).0) (λ f. (there f).1) c.count_from-counted.new.tally seen false cut
 
 pub returns-clause-facts : goal.returns-clause-facts
 returns-clause-facts g t c name a cs st eu acc seen k unseen =

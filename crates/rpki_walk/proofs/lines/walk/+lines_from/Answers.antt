@@ -18,7 +18,7 @@ use Rattle.rpki_walk.proofs.Findings.{read_none, read_some, arm_nothing, arm_ref
 use Rattle.rpki_walk.proofs.Walked.{remembered_tells, walked_more}
 use Rattle.rpki_walk.proofs.Below.{TellsUpTo, up_start, up_ended, child_step, none_told, all_told, below_nothing, below_refused, below_attests}
 use Rattle.rpki_walk.proofs.lines.walk.+lines_from.Goals as goal
-use Rattle.rpki_walk.proofs.lines.walk.+lines_from.Goals.{in-Nothing, in-Refused+in_ok-refuse-in-Refused, in-Attests+in_ok-show-in-Attests, in-Child+in_ok-more-in-Child+in_ok-since-in-Child}
+use Rattle.rpki_walk.proofs.lines.walk.+lines_from.Goals.{in-Nothing, in-Refused+in_ok-refuse-in-Refused, in-Attests+in_ok-shown-in-Attests, in-Child+in_ok-more-in-Child+in_ok-since-in-Child}
 
 -- At the file itself.
 moved_refuse : (old new : Finding → Type 0) (u v : List ℕ) (why : Rattle.rpki_rules.specs.declared.cause.Cause.Cause) → u ≡ v → Gains IsPrinted old (λ x. Refuses u why ≡ x) new → Gains IsPrinted old (λ x. Refuses v why ≡ x) new
@@ -112,7 +112,7 @@ loop-file-preserved g t c =
             grown refl
             (below_refused g.S.Repository.cert g.S.Repository.sets g.S.Repository.payload w w1 inv.same name a cs on uri ca csets st p p0 s s0 file met o v.in-Refused.cause v.in-Refused.is cl keyed));
       }
-      | in-Attests+in_ok-show-in-Attests v ↦ record {
+      | in-Attests+in_ok-shown-in-Attests v ↦ record {
         same = ap (λ q. g.S.Repository.world q) v.repository-is ∙ (c.in_ok-classify_met.ensures.same ∙ inv.same);
         lender = ap (λ q. g.S.Repository.lender q) v.repository-is ∙ (c.in_ok-classify_met.ensures.lender ∙ inv.lender);
         told = λ name a cs p st acc s all. let u = inv.told name a cs p st acc s all in
@@ -120,13 +120,13 @@ loop-file-preserved g t c =
             moved_up w first _ _ _ _ name a cs p (take (i + 1) fs) v.walk-is v.from-is
             (up_ended w first mid _ name a cs p fs i d c.loop-file.from l u
             (arm_attests g.S.Repository.cert g.S.Repository.sets g.S.Repository.payload IsPrinted [] w w1 inv.same name a cs path on uri ca csets st acc p p0 s s0 file o cl v.in-Attests.payload v.in-Attests.is old _
-            (v.in_ok-show-in-Attests.ensures (record { locator = name; chain = places a cs; object = file })))
+            ((rw v.in_ok-shown-in-Attests.is at v.show-shown.ensures) (record { locator = name; chain = places a cs; object = file })))
             grown refl
             (below_attests g.S.Repository.cert g.S.Repository.sets g.S.Repository.payload w w1 inv.same name a cs on uri ca csets st p p0 s s0 file met o v.in-Attests.payload v.in-Attests.is cl keyed));
       }
       | in-Child+in_ok-more-in-Child+in_ok-since-in-Child v ↦ record {
-        same = ap (λ q. g.S.Repository.world q) v.repository-is ∙ (v.in_ok-since-in-Child.ensures.same ∙ (c.in_ok-classify_met.ensures.same ∙ inv.same));
-        lender = ap (λ q. g.S.Repository.lender q) v.repository-is ∙ (v.in_ok-since-in-Child.ensures.lender ∙ (c.in_ok-classify_met.ensures.lender ∙ inv.lender));
+        same = ap (λ q. g.S.Repository.world q) v.repository-is ∙ (v.lines_from-walked.ensures.same ∙ (c.in_ok-classify_met.ensures.same ∙ inv.same));
+        lender = ap (λ q. g.S.Repository.lender q) v.repository-is ∙ (v.lines_from-walked.ensures.lender ∙ (c.in_ok-classify_met.ensures.lender ∙ inv.lender));
         told = λ name a cs p st acc s all. let u = inv.told name a cs p st acc s all in
             let v1 = g.S.Repository.world c.classify_met.new.repository in
             let cert = g.S.Repository.cert v.in-Child.child in
@@ -134,7 +134,7 @@ loop-file-preserved g t c =
             moved_up w first _ _ _ _ name a cs p (take (i + 1) fs) v.walk-is v.from-is
             (child_step g.S.Repository.cert g.S.Repository.sets g.S.Repository.payload w w1 inv.same name a cs on uri ca csets st p p0 s s0 file acc o v.in-Child.child v.in-Child.key v.in-Child.is cl m
             v.deref.result.now (v.deref.ensures.value ∙ v.in_ok-more-in-Child.ensures) v1 (c.in_ok-classify_met.ensures.same ∙ inv.same) seen _ v.in_ok-since-in-Child.since
-            (moved_lines v1 v.deref.result.now cert sets seen _ v.in_ok-since-in-Child.since d file c.file-item.is v.in_ok-since-in-Child.ensures.facts)
+            (moved_lines v1 v.deref.result.now cert sets seen _ v.in_ok-since-in-Child.since d file c.file-item.is (rw v.in_ok-since-in-Child.is at v.lines_from-walked.ensures.facts))
             (walked_more w mid seen refl grown (λ x n h. h) u.walked)
             first mid fs i d c.loop-file.from _ refl l refl grown keyed u v.min-from.ensures);
       }
