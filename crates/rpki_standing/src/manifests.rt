@@ -25,7 +25,10 @@ fn manifest_in(alloc: Global, octets: &Bytes, strict: bool) -> Result<Option<Man
 {
     match Manifest::decode(alloc, octets.clone()?, strict) {
         Ok(manifest) => Ok(Some(manifest)),
-        Err(DecodeError::Content(_, _)) => Ok(None),
+        Err(DecodeError::Content(error, _)) => {
+            drop(error);
+            Ok(None)
+        }
         Err(DecodeError::Source(never)) => match never {},
         Err(DecodeError::Memory) => Err(AllocError),
     }

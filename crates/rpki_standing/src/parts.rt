@@ -99,8 +99,15 @@ pub(crate) fn find_parts<D: Digester, V: Verifier>(
         Ok(keys) => keys,
         Err(test) => return Ok(Err(PointReason::ManifestFails(test))),
     };
-    match own_list(alloc, ca, manifest, keys.as_slice(), index, verifier)? {
-        Ok(crl) => Ok(Ok((keys, crl))),
-        Err(reason) => Ok(Err(reason)),
+    match own_list(alloc, ca, manifest, keys.as_slice(), index, verifier) {
+        Ok(Ok(crl)) => Ok(Ok((keys, crl))),
+        Ok(Err(reason)) => {
+            drop(keys);
+            Ok(Err(reason))
+        }
+        Err(error) => {
+            drop(keys);
+            Err(error)
+        }
     }
 }

@@ -20,7 +20,10 @@ pub fn read_cert(alloc: Global, octets: &Bytes) -> Result<Option<Cert>, AllocErr
 {
     match Cert::decode(alloc, octets.clone()?) {
         Ok(cert) => Ok(Some(cert)),
-        Err(DecodeError::Content(_, _)) => Ok(None),
+        Err(DecodeError::Content(error, _)) => {
+            drop(error);
+            Ok(None)
+        }
         Err(DecodeError::Source(never)) => match never {},
         Err(DecodeError::Memory) => Err(AllocError),
     }

@@ -41,6 +41,9 @@ pub fn follow<'a>(
     tal.prefer_https();
     match first_held(tal.uris(), index) {
         Some(object) => Ok(LocatorLookup::Held(object, tal)),
-        None => Ok(LocatorLookup::Nowhere),
+        None => {
+            drop(tal);
+            Ok(LocatorLookup::Nowhere)
+        }
     }
 }

@@ -81,11 +81,15 @@ pub fn find_object<D: Digester, V: Verifier>(
     let Some(object) = object_at(alloc, key, index)? else {
         return Ok(Err(FileReason::BadObject));
     };
-    match check_object(alloc, &object, ca, ee, crl, index, digester, verifier)? {
-        Ok(()) => Ok(Ok(object)),
-        Err(test) => {
+    match check_object(alloc, &object, ca, ee, crl, index, digester, verifier) {
+        Ok(Ok(())) => Ok(Ok(object)),
+        Ok(Err(test)) => {
             drop(object);
             Ok(Err(FileReason::ObjectFails(test)))
+        }
+        Err(error) => {
+            drop(object);
+            Err(error)
         }
     }
 }

@@ -19,7 +19,10 @@ fn roa_in(alloc: Global, octets: &Bytes, strict: bool) -> Result<Option<Publishe
 {
     match Roa::decode(alloc, octets.clone()?, strict) {
         Ok(roa) => Ok(Some(Published::from_roa(roa))),
-        Err(DecodeError::Content(_, _)) => Ok(None),
+        Err(DecodeError::Content(error, _)) => {
+            drop(error);
+            Ok(None)
+        }
         Err(DecodeError::Source(never)) => match never {},
         Err(DecodeError::Memory) => Err(AllocError),
     }
@@ -31,7 +34,10 @@ fn aspa_in(alloc: Global, octets: &Bytes, strict: bool) -> Result<Option<Publish
 {
     match Aspa::decode(alloc, octets.clone()?, strict) {
         Ok(aspa) => Ok(Some(Published::from_aspa(aspa))),
-        Err(DecodeError::Content(_, _)) => Ok(None),
+        Err(DecodeError::Content(error, _)) => {
+            drop(error);
+            Ok(None)
+        }
         Err(DecodeError::Source(never)) => match never {},
         Err(DecodeError::Memory) => Err(AllocError),
     }

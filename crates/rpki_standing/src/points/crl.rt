@@ -37,8 +37,14 @@ fn crl_in(alloc: Global, octets: &[u8]) -> Result<Option<List>, AllocError>
 {
     match List::decode(alloc, octets) {
         Ok(crl) => Ok(Some(crl)),
-        Err(DecodeError::Content(_, _)) => Ok(None),
-        Err(_) => Err(AllocError),
+        Err(DecodeError::Content(error, _)) => {
+            drop(error);
+            Ok(None)
+        }
+        Err(error) => {
+            drop(error);
+            Err(AllocError)
+        }
     }
 }
 

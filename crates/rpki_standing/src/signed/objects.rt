@@ -54,9 +54,13 @@ pub fn check_content<D: Digester, V: Verifier>(
     );
     match verified {
         Ok(()) => Ok(Ok(())),
-        Err(error) => match content_test(&error) {
-            Some(test) => Ok(Err(test)),
-            None => Err(AllocError),
-        },
+        Err(error) => {
+            let test = content_test(&error);
+            drop(error);
+            match test {
+                Some(test) => Ok(Err(test)),
+                None => Err(AllocError),
+            }
+        }
     }
 }

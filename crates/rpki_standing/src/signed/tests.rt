@@ -61,6 +61,10 @@ pub(crate) fn test_told(answer: Result<(), VerificationError>) -> Result<(), Ver
 {
     match answer {
         Ok(()) => Ok(()),
-        Err(error) => Err(test_of(&error)),
+        Err(error) => {
+            let test = test_of(&error);
+            drop(error);
+            Err(test)
+        }
     }
 }

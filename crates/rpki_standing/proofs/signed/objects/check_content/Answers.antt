@@ -24,4 +24,4 @@ returns-in-Some-clause-told g c b =
     let test = c.in-Some.test in
     let is = c.in-Some.is in
     test_fails d v o _ same _ (c.verify_content-verified.ensures.answers o.content_type) b test c.in-Err.error c.in-Err.is
-    (λ e. c.content_test.ensures.digest (is ∙ ap (λ (t : ContentTest). Some t) e)) (λ e. c.content_test.ensures.time (is ∙ ap (λ (t : ContentTest). Some t) e)) (λ e. c.content_test.ensures.signature (is ∙ ap (λ (t : ContentTest). Some t) e))
+    (λ e. c.content_test-test.ensures.digest (is ∙ ap (λ (t : ContentTest). Some t) e)) (λ e. c.content_test-test.ensures.time (is ∙ ap (λ (t : ContentTest). Some t) e)) (λ e. c.content_test-test.ensures.signature (is ∙ ap (λ (t : ContentTest). Some t) e))
