@@ -95,7 +95,8 @@ CountsFrom w up on uri ca sets old new whole =
 
 -- No chain with these keys goes on with the file: each certificate of an authority that it is has
 -- one of the keys, or the chain is as long as a chain may be.
-abbrev pub GoesNowhere : World → (Kind → ℕ → Type 0) → Cert → Point → List (List ℕ) → List ℕ → Type 0
+abbrev pub GoesNowhere : World → (Kind → ℕ → Type 0) → Cert → Point → List (List ℕ)
+    → List ℕ → Type 0
 GoesNowhere w held ca p on uri =
     (c : Cert) → IsIssued w held ca p uri c
     → Mem on c.tbs.subject_key_identifier ⊎ (w.depth ≤ length on)
