@@ -4,44 +4,34 @@ ghost use Rattle.std.specs.Prelude.{◌≡◌, ◌↔◌, ◌≤◌, IsTrue, len
 ghost use Rattle.certs_extension.specs.Refusals.{fault_text};
 
 use crate::decode::ContentError;
-use thiserror::Error;
+use std::error::Error;
+use std::fmt;
 
 /// Why extensions are refused: the first test that fails, of those of one extension, each in its
 /// turn, and then of those of the list as a whole.
-#[derive(Clone, Copy, Debug, PartialEq, Eq, Error, Drop)]
+#[derive(Clone, Copy, Debug, PartialEq, Eq, Drop)]
 pub enum ExtensionError {
     /// It is there twice.
-    #[error("duplicate extension")]
     Duplicate,
     /// It has to be critical and isn't, or the other way.
-    #[error("criticality of an extension")]
     Criticality,
     /// It is critical and not known.
-    #[error("unknown critical extension")]
     UnknownCritical,
     /// Its octets don't begin with a value of its type.
-    #[error("invalid value of an extension")]
     BadValue,
     /// There are no resources (RFC 6487 4.8.10, 4.8.11).
-    #[error("no resources")]
     MissingResources,
     /// There is no policy (4.8.9).
-    #[error("no certificate policy")]
     MissingPolicy,
     /// IP resources stand under another policy (RFC 8360 4.2).
-    #[error("IP resources under another policy")]
     WrongIpResources,
     /// AS resources stand under another policy (RFC 8360 4.2).
-    #[error("AS resources under another policy")]
     WrongAsResources,
     /// There is no subject key identifier (RFC 6487 4.8.2).
-    #[error("no subject key identifier")]
     MissingSubjectKeyIdentifier,
     /// There is no key usage (4.8.4).
-    #[error("no key usage")]
     MissingKeyUsage,
     /// No memory is left.
-    #[error("out of memory")]
     Memory,
 }
 
@@ -73,6 +63,14 @@ impl ExtensionError {
         }
     }
 }
+
+impl fmt::Display for ExtensionError {
+    fn fmt<W: fmt::Write>(&self, f: &mut fmt::Formatter<W>) -> fmt::Result {
+        f.write_str(self.text())
+    }
+}
+
+impl Error for ExtensionError {}
 
 impl From<ExtensionError> for ContentError {
     ghost use Rattle.certs_extension.specs.bcder_source.declared.error.ContentError.TheVariants.{Static};

@@ -1,6 +1,6 @@
 //! Where the subject publishes (RFC 6487 4.8.8).
 
-ghost use Rattle.std.specs.Prelude.{◌≡◌, ◌↔◌, true, IsTrue, OnErr};
+ghost use Rattle.std.specs.Prelude.{◌≡◌, ◌↔◌, Some, true, IsTrue, OnErr};
 ghost use Rattle.certs_extension.specs.bcder_tree.Tags.{sequence_tag};
 ghost use Rattle.certs_extension.specs.bcder_content.Exact.{ReadsAs, ReadsOptAs};
 ghost use Rattle.certs_extension.specs.bcder_content.Here.{here};
@@ -8,7 +8,7 @@ ghost use Rattle.certs_extension.specs.bcder_content.Grammar.{End, Then};
 ghost use Rattle.certs_extension.specs.bcder_content.InMode.{ReadsFields};
 ghost use Rattle.certs_basics.specs.Lists.{Mem};
 ghost use Rattle.certs_basics.specs.Uris.{IsRsync, IsHttps};
-ghost use Rattle.certs_extension.specs.Access.{IsAccessBody, IsEntry, IsEntryBody, IsSubjectAccess, methods, no_access};
+ghost use Rattle.certs_extension.specs.Access.{IsAccessBody, IsEntry, IsEntryBody, IsSubjectAccess, as_entry, methods, no_access};
 ghost use Rattle.certs_extension.specs.Found.{AddsEntry, AreFound, Keeps, description_fields, entry_of, found_of};
 ghost use Rattle.certs_extension.specs.Grammars.{IsName, one_field};
 
@@ -131,28 +131,26 @@ fn take_opt_description<S: Source>(
 }
 
 // The first rsync URI with one more text.
-fn keep_rsync(found: Option<Rsync>, text: Bytes) -> Option<Rsync>
-    ensures { Keeps IsRsync text found result }
+fn keep_rsync(found: &mut Option<Rsync>, text: Bytes)
+    ensures { Keeps IsRsync text found.old found.new }
 {
     if found.is_some() {
-        return found;
+        return;
     }
-    match Rsync::from_bytes(text) {
-        Ok(uri) => Some(uri),
-        Err(_) => None,
+    if let Ok(uri) = Rsync::from_bytes(text) {
+        *found = Some(uri);
     }
 }
 
 // The first https URI with one more text.
-fn keep_https(found: Option<Https>, text: Bytes) -> Option<Https>
-    ensures { Keeps IsHttps text found result }
+fn keep_https(found: &mut Option<Https>, text: Bytes)
+    ensures { Keeps IsHttps text found.old found.new }
 {
     if found.is_some() {
-        return found;
+        return;
     }
-    match Https::from_bytes(text) {
-        Ok(uri) => Some(uri),
-        Err(_) => None,
+    if let Ok(uri) = Https::from_bytes(text) {
+        *found = Some(uri);
     }
 }
 
@@ -169,32 +167,37 @@ impl SubjectAccess {
         }
     }
 
-    // The URIs with one more access description.
-    fn with(mut self, description: Description) -> SubjectAccess
-        ensures { AddsEntry (entry_of description) self result }
+    // Keeps the text of a method that is known, where it is the first URI of this method.
+    fn keep(&mut self, method: &Oid, text: Bytes)
+        ensures { AddsEntry (as_entry (method.now.0, Some text)) self.old self.new }
+    {
+        if method.equals(&CA_REPOSITORY) {
+            keep_rsync(&mut self.repository, text);
+            return;
+        }
+        if method.equals(&RPKI_MANIFEST) {
+            keep_rsync(&mut self.manifest, text);
+            return;
+        }
+        if method.equals(&SIGNED_OBJECT) {
+            keep_rsync(&mut self.object, text);
+            return;
+        }
+        if !method.equals(&RPKI_NOTIFY) {
+            return;
+        }
+        keep_https(&mut self.notify, text);
+    }
+
+    // Adds one more access description.
+    fn add(&mut self, description: Description)
+        ensures { AddsEntry (entry_of description) self.old self.new }
     {
         let method = description.method;
         let Some(name) = description.name else {
-            return self;
+            return;
         };
-        let text = name.into_bytes();
-        if method.equals(&CA_REPOSITORY) {
-            self.repository = keep_rsync(self.repository, text);
-            return self;
-        }
-        if method.equals(&RPKI_MANIFEST) {
-            self.manifest = keep_rsync(self.manifest, text);
-            return self;
-        }
-        if method.equals(&SIGNED_OBJECT) {
-            self.object = keep_rsync(self.object, text);
-            return self;
-        }
-        if method.equals(&RPKI_NOTIFY) {
-            self.notify = keep_https(self.notify, text);
-            return self;
-        }
-        self
+        self.keep(&method, name.into_bytes());
     }
 }
 
@@ -209,7 +212,7 @@ fn take_all<S: Source>(
     let mut found = SubjectAccess::none();
     let mut is_some = false;
     while let Some(description) = take_opt_description(alloc, cons)? {
-        found = found.with(description);
+        found.add(description);
         is_some = true;
     }
     Ok((found, is_some))

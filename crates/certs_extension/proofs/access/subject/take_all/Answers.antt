@@ -19,7 +19,7 @@ returns-in_err-description g c = gather_stop _ _ c.loop-found.invariant c.from_r
 pub loop-found-preserved : goal.loop-found-preserved
 loop-found-preserved g c =
     let i = c.loop-found.invariant in
-    gather_next entry_one i (there _ _ _ c.in-Some.is c.in_ok-description.ensures) (says_more i.xs _ _ _ _ i.says c.with-found.ensures)
+    gather_next entry_one i (there _ _ _ c.in-Some.is c.in_ok-description.ensures) (says_more i.xs _ _ _ _ i.says c.add.ensures)
 
 pub returns : goal.returns
 returns g c = gather_end c.loop-found.invariant entry_tagged (absent _ _ _ c.in_default.is c.in_ok-description.ensures) refl
