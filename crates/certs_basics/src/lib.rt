@@ -1,7 +1,10 @@
 //! What certificates, revocation lists and signed objects share: definitions of names, keys, algorithms and identifiers, and
-//! their URIs ([`uri`]) and moments ([`time`]).
+//! their URIs ([`uri`]), moments ([`time`]) and object identifiers ([`oid`]), and what trust anchor locators are called
+//! ([`tal`]).
 #![tactic(auto)]
 
+pub mod oid;
+pub mod tal;
 pub mod time;
 pub mod uri;
 

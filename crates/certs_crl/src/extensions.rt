@@ -17,18 +17,13 @@ ghost use Rattle.certs_x509.specs.certs_extension.Extensions.{IsAuthority};
 
 use crate::invalid::InvalidExtension;
 use bcder::decode::{Constructed, ContentError, Decode, DecodeError, Pos, Source};
-use bcder::{ConstOid, Mode, Oid, Tag};
+use bcder::{Mode, Tag};
 use certs_cert::{Extension, take_authority_key_identifier};
 use certs_name::Serial;
+use certs_name::oid::{CE_AUTHORITY_KEY_IDENTIFIER, CE_CRL_NUMBER};
 use certs_x509::signed::KeyIdentifier;
 use std::alloc::{AllocError, Global};
 use std::convert::Infallible;
-
-/// cRLNumber, 2.5.29.20 (RFC 5280 5.2.3).
-pub(crate) const CE_CRL_NUMBER: ConstOid = Oid(&[85, 29, 20]);
-
-/// authorityKeyIdentifier, 2.5.29.35 (RFC 5280 5.2.1).
-pub(crate) const CE_AUTHORITY_KEY_IDENTIFIER: ConstOid = Oid(&[85, 29, 35]);
 
 // The two extensions, in the order in which they stand.
 pub(crate) type Pair = (Extension, Extension);

@@ -13,13 +13,13 @@ ghost use Rattle.certs_crl.specs.Fields.{as_list};
 ghost use Rattle.certs_crl.specs.Written.{WritesCrlNumber, WritesExtension, WritesInDer, WritesKey, WritesListExtensions, WritesTbsList};
 ghost use Rattle.certs_name.specs.Named.{IsNamed};
 
-use crate::extensions::{CE_AUTHORITY_KEY_IDENTIFIER, CE_CRL_NUMBER};
 use crate::tbs::TbsCertList;
 use bcder::encode::{self, PrimitiveContent, Values};
 use bcder::string::{OctetSliceEncoder, WrappingOctetStringEncoder};
 use bcder::{ConstOid, Mode, Tag};
 use certs_basics::time::text::VariedTime;
 use certs_key::algorithm::{AlgorithmIdentifier, SignatureAlgorithm};
+use certs_name::oid::{CE_AUTHORITY_KEY_IDENTIFIER, CE_CRL_NUMBER};
 use certs_name::{Name, Serial};
 use certs_x509::revoked::RevokedCertificates;
 use certs_x509::revoked::revoked::{EntriesValues, RevokedValues};

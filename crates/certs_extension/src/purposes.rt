@@ -12,17 +12,15 @@ ghost use Rattle.certs_extension.specs.Purposes.{AreKeyPurposes, AreOids, ArePur
 
 use crate::forms::InspectionError;
 use bytes::Bytes;
+use certs_basics::oid::KP_BGPSEC_ROUTER;
 use certs_key::decode::{Constructed, ContentError, DecodeError, Source};
 use certs_key::encode::{
     self, EncodeError, Encodes, Primitive, PrimitiveContent, Values, sequence, slice,
 };
-use certs_key::{ConstOid, Mode, Oid};
+use certs_key::{Mode, Oid};
 use std::alloc::{AllocError, Global};
 use std::io::Write;
 use std::marker::Model;
-
-// id-kp-bgpsec-router, 1.3.6.1.5.5.7.3.30 (RFC 8209 3.1.3.2).
-const KP_BGPSEC_ROUTER: ConstOid = Oid(&[43, 6, 1, 5, 5, 7, 3, 30]);
 
 /// What a key may be used for, one purpose at least (RFC 5280 4.2.1.12). Contracts see the purposes in their order, each
 /// by the content octets of its identifier.

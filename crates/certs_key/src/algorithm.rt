@@ -11,7 +11,6 @@ pub mod algorithm;
 pub mod digest;
 pub mod identifier;
 pub mod laws;
-pub mod oid;
 pub mod signature;
 
 pub use algorithm::{RpkiSignatureAlgorithm, SignatureAlgorithm};

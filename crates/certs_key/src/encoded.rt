@@ -10,8 +10,8 @@ use crate::algorithm::encode::{
 };
 use crate::algorithm::{BitString, Mode, PublicKeyFormat, Tag};
 use crate::expected::Expected;
-use crate::format::{EC_PUBLIC_KEY, RSA_ENCRYPTION, SECP256R1};
 use bytes::Bytes;
+use certs_name::oid::{EC_PUBLIC_KEY, RSA_ENCRYPTION, SECP256R1};
 use std::alloc::{AllocError, Global};
 
 // A primitive value of a constant.

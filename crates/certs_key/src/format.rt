@@ -7,17 +7,9 @@ ghost use Rattle.certs_key.specs.bcder_content.InMode.{ReadsFields};
 ghost use Rattle.certs_key.specs.certs_basics.Keys.{IsFormat, IsFormatBody};
 
 use crate::algorithm::decode::{Constructed, ContentError, DecodeError, Source};
-use crate::algorithm::{ConstOid, Oid, PublicKeyFormat};
+use crate::algorithm::{Oid, PublicKeyFormat};
+use certs_name::oid::{EC_PUBLIC_KEY, RSA_ENCRYPTION, SECP256R1};
 use std::alloc::Global;
-
-// rsaEncryption, 1.2.840.113549.1.1.1 (RFC 7935 3).
-pub(crate) const RSA_ENCRYPTION: ConstOid = Oid(&[42, 134, 72, 134, 247, 13, 1, 1, 1]);
-
-// ecPublicKey, 1.2.840.10045.2.1 (RFC 5480 2.1.1).
-pub(crate) const EC_PUBLIC_KEY: ConstOid = Oid(&[42, 134, 72, 206, 61, 2, 1]);
-
-// secp256r1, 1.2.840.10045.3.1.7 (RFC 5480 2.1.1.1).
-pub(crate) const SECP256R1: ConstOid = Oid(&[42, 134, 72, 206, 61, 3, 1, 7]);
 
 // The fields of an algorithm's identifier: rsaEncryption with NULL or nothing after it, or ecPublicKey with secp256r1.
 fn take_format_fields<S: Source>(

@@ -24,7 +24,7 @@ pub use algorithm::{
     OctetString, Oid, PrintableString, PublicKeyFormat, RpkiSignature, RpkiSignatureAlgorithm,
     Signature, SignatureAlgorithm, Tag, decode, encode, string,
 };
-pub use certs_name::{InvalidName, Name, Serial};
+pub use certs_name::{InvalidName, Name, Serial, oid};
 pub use digest::Digester;
 pub use identifier::KeyIdentifier;
 pub use key::PublicKey;

@@ -23,7 +23,7 @@ mod whole;
 
 pub use certs_basics::{
     BitString, Captured, ConstOid, Ia5String, Mode, OctetString, Oid, PrintableString,
-    PublicKeyFormat, Tag, decode, encode, string,
+    PublicKeyFormat, Tag, decode, encode, oid, string,
 };
 pub use error::InvalidName;
 pub use name::Name;

@@ -6,3 +6,5 @@ pub mod attributes;
 pub mod manifest;
 pub mod signed;
 pub mod verify;
+
+pub use certs_key::oid;

@@ -1,2 +1,2 @@
 -- Lemmas of bcder, for the crates above.
-pub use Rattle.certs_x509.proofs.of_bcder.Read
+pub use Rattle.certs_extension.proofs.of_bcder.Read

@@ -1,2 +1,2 @@
 -- Lemmas of bcder_octets, for the crates above.
-pub use Rattle.certs_x509.proofs.of_bcder_octets.BitReadings
+pub use Rattle.certs_extension.proofs.of_bcder_octets.BitReadings

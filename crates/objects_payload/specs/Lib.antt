@@ -23,14 +23,14 @@ pub mod RoaContents
 pub mod Friendly
 pub mod Covered
 -- What stands below, for the crates above.
-pub use Rattle.certs_x509.specs.bcder as bcder
-pub use Rattle.certs_x509.specs.bcder_content as bcder_content
-pub use Rattle.certs_x509.specs.bcder_octets as bcder_octets
-pub use Rattle.certs_x509.specs.bcder_primitive as bcder_primitive
-pub use Rattle.certs_x509.specs.bcder_source as bcder_source
-pub use Rattle.certs_x509.specs.bcder_tree as bcder_tree
-pub use Rattle.certs_x509.specs.certs_basics as certs_basics
-pub use Rattle.certs_x509.specs.certs_extension as certs_extension
+pub use Rattle.certs_extension.specs.bcder as bcder
+pub use Rattle.certs_extension.specs.bcder_content as bcder_content
+pub use Rattle.certs_extension.specs.bcder_octets as bcder_octets
+pub use Rattle.certs_extension.specs.bcder_primitive as bcder_primitive
+pub use Rattle.certs_extension.specs.bcder_source as bcder_source
+pub use Rattle.certs_extension.specs.bcder_tree as bcder_tree
+pub use Rattle.certs_extension.specs.certs_basics as certs_basics
+pub use Rattle.certs_extension.specs as certs_extension
 pub use Rattle.resources_asn.specs as resources_asn
-pub use Rattle.certs_x509.specs.resources_chain as resources_chain
+pub use Rattle.certs_extension.specs.resources_chain as resources_chain
 pub use Rattle.resources_ip_prefix.specs as resources_ip_prefix

@@ -7,7 +7,7 @@ use Rattle.objects_payload.specs.bcder_content.Grammar.{Many, One}
 use Rattle.objects_payload.specs.bcder_content.Kept.{CapturedValue}
 use Rattle.objects_payload.specs.resources_asn.Encodings.{IsAsId}
 use Rattle.objects_payload.specs.Spelled.{SpellsAsIds}
-use Rattle.certs_x509.proofs.of_bcder_content.Unique.{many_one, octets_one, unsigned_one}
+use Rattle.certs_extension.proofs.of_bcder_content.Unique.{many_one, octets_one, unsigned_one}
 use Rattle.resources_asn.proofs.of_bcder_tree.Trees.{one_fields}
 
 -- A value is one AS number at most.

@@ -19,8 +19,9 @@ pub mod uri;
 mod uris;
 
 pub use bcder::decode;
-pub use certs_x509::uri::Rsync;
-pub use certs_x509::{Serial, Time};
+pub use certs_basics::time::Time;
+pub use certs_basics::uri::Rsync;
+pub use certs_key::Serial;
 pub use error::ReadError;
 pub use tal::Tal;
 pub use uri::TalUri;

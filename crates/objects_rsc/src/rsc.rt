@@ -9,12 +9,10 @@ ghost use Rattle.objects_rsc.specs.bcder_tree.declared.mode.Mode.TheVariants.{De
 use crate::checklist::ResourceSignedChecklist;
 use bcder::decode::DecodeError;
 use bytes::Bytes;
+use objects_cms::oid::CT_SIGNED_CHECKLIST;
 use objects_valid::{Signed, SignedContent};
 use std::alloc::Global;
 use std::convert::Infallible;
-
-// id-ct-signedChecklist, 1.2.840.113549.1.9.16.1.48 (RFC 9323 3).
-const SIGNED_CHECKLIST: &[u8] = &[42, 134, 72, 134, 247, 13, 1, 9, 16, 1, 48];
 
 /// A signed checklist (RFC 9323 3).
 pub type Rsc = Signed<ResourceSignedChecklist>;
@@ -25,7 +23,7 @@ impl SignedContent for ResourceSignedChecklist {
     ghost says = { IsChecklist Der };
 
     fn content_type() -> &'static [u8] {
-        SIGNED_CHECKLIST
+        CT_SIGNED_CHECKLIST.0
     }
 
     fn from_content(alloc: Global, octets: Bytes) -> Result<Self, DecodeError<Infallible>> {

@@ -14,13 +14,11 @@ use crate::lists::take_opt_lists;
 use crate::signers::take_signers;
 use bcder::Captured;
 use certs_cert::decode::{Constructed, DecodeError, Source};
-use certs_cert::{Cert, ConstOid, DigestAlgorithm, Oid, Tag, beside};
+use certs_cert::{Cert, DigestAlgorithm, Tag, beside};
+use objects_cms::oid::SIGNED_DATA;
 use objects_cms::signed::SignerInfo;
 use objects_cms::signed::content::{Typed, take_content_info};
 use std::alloc::Global;
-
-// id-signedData, 1.2.840.113549.1.7.2 (RFC 5652 5.1).
-const SIGNED_DATA: ConstOid = Oid(&[42, 134, 72, 134, 247, 13, 1, 7, 2]);
 
 // The number that stands for the version of signed data with signers by key identifier (RFC 5652 5.1).
 const VERSION: u8 = 3;

@@ -10,11 +10,9 @@ use crate::attestation::ResourceTaggedAttestation;
 use crate::object::MultiSignedObject;
 use bcder::decode::{ContentError, DecodeError, IntoSource, Pos, Source};
 use bytes::Bytes;
+use objects_cms::oid::CT_RESOURCE_TAGGED_ATTESTATION;
 use std::alloc::Global;
 use std::marker::Model;
-
-// id-ct-resourceTaggedAttest, 1.2.840.113549.1.9.16.1.36.
-const CONTENT_TYPE: &[u8] = &[42, 134, 72, 134, 247, 13, 1, 9, 16, 1, 36];
 
 /// A resource tagged attestation: a signed object with several signers, and what its content says. Contracts see both.
 #[derive(Drop)]
@@ -35,7 +33,7 @@ impl Model for Rta {
 fn is_attestation(signed: &MultiSignedObject) -> bool
     ensures { IsTrue result ↔ (signed.now.content_type ≡ tagged_attestation) }
 {
-    signed.content_type().as_slice() == CONTENT_TYPE
+    signed.content_type().as_slice() == CT_RESOURCE_TAGGED_ATTESTATION.0
 }
 
 // The signed object that a source begins with, and the octets of its content, shared; an object with a content of another

@@ -15,11 +15,12 @@ ghost use Rattle.objects_rta_written.specs.Contents.{AttestationRefused};
 mod signing;
 
 use crate::attestation::EncodeAttestation;
-use crate::draft::signing::{CONTENT_TYPE, signer_for};
+use crate::draft::signing::signer_for;
 use crate::signer::octets_of;
 use bytes::Bytes;
 use certs::written::{EncodeError, Time};
 use certs_cert::Cert;
+use certs_key::oid::CT_RESOURCE_TAGGED_ATTESTATION;
 use certs_key::{Digester, OctetString, Oid, Signer, SigningError};
 use objects_rta::{Crl, MultiSignedObject, ResourceTaggedAttestation, Rta, SignerInfo};
 use std::alloc::{AllocError, Global};
@@ -230,7 +231,7 @@ impl RtaBuilder {
             crls,
             signers,
         } = self;
-        let content_type = Oid(Bytes::from_static(CONTENT_TYPE));
+        let content_type = Oid(Bytes::from_static(CT_RESOURCE_TAGGED_ATTESTATION.0));
         let signed = MultiSignedObject::new(content_type, octets, certs, crls, signers);
         Rta::from_parts(signed, content)
     }

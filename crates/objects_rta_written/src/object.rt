@@ -19,16 +19,14 @@ use certs::written::{
 };
 use certs_cert::Cert;
 use certs_cert::signed::SignedDataValues;
+use certs_key::DigestAlgorithm;
 use certs_key::encode::{Encodes, Slice, slice};
-use certs_key::{ConstOid, DigestAlgorithm, Oid};
+use certs_key::oid::SIGNED_DATA;
 use objects_rta::{Crl, MultiSignedObject, Rta, SignerInfo};
 use objects_written::frame::attributes::{OidValue, SetOf, StringValue};
 use std::alloc::Global;
 use std::io::Write;
 use std::marker::Model;
-
-// id-signedData, 1.2.840.113549.1.7.2 (RFC 5652 5.1).
-const SIGNED_DATA: ConstOid = Oid(&[42, 134, 72, 134, 247, 13, 1, 7, 2]);
 
 // The number that stands for the version of signed data with signers by key identifier (RFC 5652 5.1).
 const VERSION: u8 = 3;

@@ -12,16 +12,14 @@ ghost use Rattle.objects_written.specs.Manifests.{AreFileNames, IsManifestNumber
 use crate::file::ListedFiles;
 use certs::written::{Identifier, Sequence, SerialValue};
 use certs_key::encode::{EncodeError, Iter, Values};
-use certs_key::{Captured, ConstOid, Mode, Oid, Serial};
+use certs_key::oid::SHA256;
+use certs_key::{Captured, Mode, Serial};
 use objects_cms::manifest::ManifestContent;
 use objects_cms::manifest::file::is_file_name;
 use objects_payload::forms::Time;
 use std::alloc::Global;
 use std::io::Write;
 use std::marker::Model;
-
-// id-sha256, 2.16.840.1.101.3.4.2.1 (RFC 5754 2.2): the algorithm of the hashes (RFC 9286 4.2.1, RFC 7935 2).
-const SHA256: ConstOid = Oid(&[96, 134, 72, 1, 101, 3, 4, 2, 1]);
 
 /// A moment: a GeneralizedTime, whatever its year (RFC 9286 4.2.1).
 #[derive(Drop)]

@@ -7,7 +7,7 @@ use anyhow::Result;
 use certs_verify::ResourceCert;
 use rpki_bundle::Bundle;
 use rpki_commands::Fips;
-use rpki_steps::places::{Point, point, point_unheld};
+use rpki_steps::point::{Point, point, point_unheld};
 use std::alloc::{AllocError, Global};
 
 // Where the revocation list stands, the serial numbers on it, that of the manifest's certificate, and each file with its

@@ -1,5 +1,5 @@
 -- What a locator leads to, by the first object that is there.
-use Rattle.std.proofs.Common.{◌≡◌, ◌<◌, ℕ, List, [], length, get_or, Option, Some, None, Result, Ok, Err, refl, sym, ap, ◌∙◌, subst}
+use Rattle.std.proofs.Common.{◌≡◌, ◌<◌, ℕ, List, [], length, get_or, Option, None, Result, Ok, Err, refl, sym, ap, ◌∙◌, subst}
 use Rattle.std.proofs.lemmas.List.{get_or_read}
 use Rattle.std.specs.Prelude.{IfOk, String}
 use Rattle.std.specs.declared.alloc.Global.{Global}
@@ -10,7 +10,7 @@ use Rattle.rpki_steps.specs.Anchored.{IsFoundAnchor}
 use Rattle.rpki_steps.specs.Holders.{cert_of, sets_of}
 use Rattle.rpki_steps.specs.certs_basics.Lists.{FirstFailing}
 use Rattle.rpki_steps.specs.certs_verify.Holders.{ResourceCertValue}
-use Rattle.rpki_steps.specs.declared.anchors.TrustAnchor.{TrustAnchor}
+use Rattle.rpki_steps.specs.declared.anchor.locator.TrustAnchor.{TrustAnchor}
 use Rattle.rpki_standing.specs.rpki_bundle.declared.parts.Locator.{Locator}
 use Rattle.rpki_standing.specs.objects_payload.declared.locator.error.ReadError.{ReadError}
 use Rattle.rpki_rules.specs.Certs.{Cert, CertText, Key}

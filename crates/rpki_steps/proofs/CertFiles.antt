@@ -1,8 +1,8 @@
 -- Files of a publication point that are certificates.
-use Rattle.std.proofs.Common.{◌≡◌, ◌≢◌, ◌++◌, inl, inr, ℕ, true, List, map, Some, Ok, Err, refl, sym, subst}
+use Rattle.std.proofs.Common.{◌≡◌, ◌≢◌, inr, ℕ, true, List, map, Some, Ok, Err, refl, sym, subst}
 use Rattle.certs_verify.specs.TestAnswers.{Answers}
 use Rattle.rpki_standing.specs.Lookups.{NoCertAt}
-use Rattle.rpki_steps.specs.certs_basics.Lists.{Each, FirstFailing}
+use Rattle.rpki_steps.specs.certs_basics.Lists.{Each}
 use Rattle.rpki_steps.specs.Below.{FailsBelow, FailsChild, IsFoundBelow, IsFoundChild, TellsUnheld, below_tests}
 use Rattle.rpki_steps.specs.Holders.{cert_of, sets_of}
 use Rattle.rpki_steps.specs.certs_verify.Holders.{ResourceCertValue}
@@ -15,7 +15,7 @@ use Rattle.rpki_rules.specs.Chains.{CertAt, HasExtension, cer}
 use Rattle.rpki_rules.specs.Kinds.{InSet}
 use Rattle.rpki_rules.specs.Points.{Point}
 use Rattle.rpki_rules.specs.Reasons.{AreUnheld}
-use Rattle.rpki_rules.specs.FileReasons.{CerTest, CerRevocation, PassesCer, PassesRevocation, revocation_tests, tests_of_cers}
+use Rattle.rpki_rules.specs.FileReasons.{CerTest, CerRevocation, PassesCer, PassesRevocation, revocation_tests}
 use Rattle.rpki_rules.specs.ReasonViews.{CerUnheld, cer_test_of, kind_claimed, runs_claimed}
 use Rattle.rpki_rules.specs.Refused.{IsIssued}
 use Rattle.rpki_rules.specs.World.{World}

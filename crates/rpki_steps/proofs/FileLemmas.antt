@@ -4,13 +4,12 @@ use Rattle.std.proofs.Math.Bool.{beq}
 use Rattle.std.specs.Option.{option_eq}
 use Rattle.std.specs.Prelude.{◌↔◌, IfOk, IsTrue}
 use Rattle.rpki_steps.specs.certs_verify.Holders.{ResourceCertValue}
-use Rattle.rpki_rules.specs.declared.cause.Cause.TheVariants as cause
 use Rattle.rpki_rules.specs.declared.reason.files.FileReason.{FileReason as Told}
 use Rattle.rpki_rules.specs.declared.reason.files.FileReason.TheVariants as told
 use Rattle.rpki_rules.specs.Attests.{IsGood, OfAspa, OfRoa, Payload as PayloadValue, PayloadText}
 use Rattle.rpki_rules.specs.Certs.{Cert}
 use Rattle.rpki_rules.specs.Chains.{HasExtension, asa, cer, roa}
-use Rattle.rpki_rules.specs.FileReasons.{FileReason, BadCer, CerFails, Loop, Depth, BadObject, ObjectFails, FileFails, file_cause}
+use Rattle.rpki_rules.specs.FileReasons.{FileReason, BadCer, CerFails, Loop, Depth, BadObject, ObjectFails, FileFails}
 use Rattle.rpki_rules.specs.Kinds.{InSet, Kind}
 use Rattle.rpki_rules.specs.Objects.{Object}
 use Rattle.rpki_rules.specs.Points.{files, Point}

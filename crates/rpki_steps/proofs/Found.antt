@@ -3,8 +3,8 @@ use Rattle.std.proofs.Common.{◌≡◌, ◌∙◌, ℕ, List, Option, Some, Non
 use Rattle.std.specs.Prelude.{IfOk}
 use Rattle.rpki_rules.specs.Certs.{Cert}
 use Rattle.rpki_rules.specs.Points.{Point}
-use Rattle.rpki_steps.specs.declared.places.files.File.{File}
-use Rattle.rpki_steps.specs.PlaceFiles.{AreFilesOf, NoFilesOf}
+use Rattle.rpki_steps.specs.declared.point.files.File.{File}
+use Rattle.rpki_steps.specs.PointFiles.{AreFilesOf, NoFilesOf}
 use Rattle.rpki_steps.specs.Parts.{ArePartsOf, HasNoParts}
 
 -- A value that was kept with what was found.

@@ -1,5 +1,5 @@
 -- A validation below an issuer decides whether the certificate is below it, and why not.
-use Rattle.std.proofs.Common.{◌≡◌, ◌++◌, ℕ, true, List, map, Option, Some, None, Result, Ok, Err, refl, sym, subst}
+use Rattle.std.proofs.Common.{◌≡◌, ℕ, true, List, map, Option, Some, None, Result, Ok, Err, refl, sym, subst}
 use Rattle.std.specs.Prelude.{IfErr, IfOk}
 use Rattle.certs_verify.specs.declared.refused.Refused.{Refused}
 use Rattle.certs_verify.specs.Answers.{fault_of}

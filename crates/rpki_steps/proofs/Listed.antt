@@ -3,8 +3,8 @@ use Rattle.std.proofs.Common.{◌≡◌, ◌∙◌, ℕ, List, [], ◌∷◌, �
 use Rattle.rpki_standing.specs.certs_basics.Paths.{join}
 use Rattle.rpki_standing.specs.certs_basics.Uris.{lookup_key}
 use Rattle.rpki_rules.specs.Objects.{File as Listed}
-use Rattle.rpki_steps.specs.declared.places.files.File.{File}
-use Rattle.rpki_steps.specs.PlaceFiles.{AreFilesIn, IsFileIn, NoFilesIn}
+use Rattle.rpki_steps.specs.declared.point.files.File.{File}
+use Rattle.rpki_steps.specs.PointFiles.{AreFilesIn, IsFileIn, NoFilesIn}
 
 -- Some files of a list have been read, so many that those of what is left of it make, after them, the files of all of it.
 pub record IsReadTo (object : List ℕ → Option (List ℕ)) (folder : List ℕ) (all left : List Listed) (read : List File) : Type 0 where

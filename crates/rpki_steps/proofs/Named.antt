@@ -15,7 +15,7 @@ use Rattle.rpki_standing.specs.objects_payload.declared.locator.error.ReadError.
 use Rattle.rpki_rules.specs.declared.reason.locators.LocatorReason.TheVariants.{BadText, NoneHeld}
 use Rattle.rpki_rules.specs.LocatorReasons.{LocatorFails}
 use Rattle.rpki_standing.specs.Lookups.{HoldsAt, IsLocatorLookup}
-use Rattle.rpki_steps.specs.ClimbAnchors.{IsAnchorOf}
+use Rattle.rpki_steps.specs.NamedAnchors.{IsAnchorOf}
 
 -- The first that is held is held.
 held_there : (w : World) (us : List (List ℕ)) (uri octets : List ℕ) → IsFirstHeld w us uri octets → w.object uri ≡ Some octets

@@ -40,7 +40,7 @@ use Rattle.rpki_rules.proofs.FirstParts.{first_behind, first_here, first_in_fron
 use Rattle.rpki_rules.proofs.FileReasons.{object_passes}
 use Rattle.rpki_rules.proofs.ReasonTests.{fit_kinds}
 use Rattle.rpki_steps.specs.Claims.{IsUnfit}
-use Rattle.rpki_steps.specs.Files.{IsBadFile, JudgesFile}
+use Rattle.rpki_steps.specs.Files.{JudgesFile}
 use Rattle.rpki_steps.specs.Objects.{held_tests}
 
 -- A test of a prefix says of its addresses.

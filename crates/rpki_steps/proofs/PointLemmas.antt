@@ -1,5 +1,5 @@
 -- What stands at a publication point by what is held, and else why nothing does.
-use Rattle.std.proofs.Common.{◌≡◌, ℕ, List, [], ◌∷◌, ◌++◌, map, Result, Ok, Err, refl, sym, subst}
+use Rattle.std.proofs.Common.{ℕ, ◌∷◌, map, Result, Ok, Err, sym, subst}
 use Rattle.std.specs.Prelude.{IfErr, IfOk}
 use Rattle.rpki_steps.specs.certs_basics.Lists.{Each, FirstFailing}
 use Rattle.rpki_steps.specs.certs_extension.Verified.{nothing}
@@ -13,7 +13,7 @@ use Rattle.rpki_rules.specs.Chains.{Fits, StandsIn}
 use Rattle.rpki_rules.specs.Kinds.{Kind}
 use Rattle.rpki_rules.specs.Objects.{Object}
 use Rattle.rpki_rules.specs.PointReasons.{ListTest, ListAuthority, ListThisUpdate, ListNextUpdate, NotOnList, ListSignature, ManifestClaim, ListFails, HasGoodManifest, HasList, PassesList, PointFails}
-use Rattle.rpki_rules.specs.Points.{IsPoint, Point}
+use Rattle.rpki_rules.specs.Points.{Point}
 use Rattle.rpki_rules.specs.Reasons.{AreUnheld, kinds}
 use Rattle.rpki_rules.specs.ReasonViews.{ListUnheld, PointUnheld, kind_claimed, list_test_of, point_reason_of, runs_claimed}
 use Rattle.rpki_rules.specs.World.{World}
@@ -22,7 +22,6 @@ use Rattle.rpki_rules.proofs.Firsts.{each_split}
 use Rattle.rpki_rules.proofs.PointReasons.{good_of, same_manifest}
 use Rattle.rpki_standing.specs.PointFaults.{FailsUnheld, unheld_tests}
 use Rattle.rpki_standing.specs.Standing.{IsStanding, StandingValue}
-use Rattle.rpki_standing.proofs.Standings.{unheld_refutes}
 use Rattle.rpki_walk.specs.Asked.{IsJudged}
 use Rattle.rpki_steps.specs.Claims.{IsUnfit}
 
@@ -82,11 +81,6 @@ module _ (w : World) (held : Kind → ℕ → Type 0) (ca : Cert) where
     -- It fits.
     pub fit : Fits held s.point.object.cert → StandsIn w held ca s.point
     fit f = record { point = is.point; fits = f }
-
--- What isn't found isn't there.
-pub none_found : {T : Type 0} (w : World) (ca : Cert) (r : Result T PointReason) → ((x : T) → ¬ (r ≡ Ok x)) → IfErr r (FailsUnheld w ca) → (p : Point) → ¬ (IsPoint w ca p)
-none_found w ca (Ok x) n f = absurd (n x refl)
-none_found w ca (Err r) n f = unheld_refutes w ca r f
 
 -- The point that stands, or why none does.
 pub judged : {P E : Type 0} (point : P → Point) (w : World) (held : Kind → ℕ → Type 0) (ca : Cert) (r : Result (Result P PointReason) E)

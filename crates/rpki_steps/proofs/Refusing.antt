@@ -1,5 +1,5 @@
 -- A refusal that is not for lack of memory tells a test.
-use Rattle.std.proofs.Common.{◌≡◌, ◌↔◌, Bool, true, false, IsTrue, Option, Some, None, Result, Ok, Err, refl, sym, ap, subst}
+use Rattle.std.proofs.Common.{◌≡◌, ◌↔◌, Bool, true, false, IsTrue, Some, Result, Ok, Err, refl, sym, subst}
 use Rattle.certs_verify.specs.declared.refused.Refused.{Refused}
 use Rattle.certs_verify.specs.Answers.{fault_of}
 use Rattle.certs_verify.specs.Holders.{ResourceCertValue}

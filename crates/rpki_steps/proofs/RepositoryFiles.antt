@@ -7,8 +7,8 @@ use Rattle.rpki_rules.specs.Objects.{File as Listed, Manifest}
 use Rattle.rpki_rules.specs.Points.{HasFiles, IsHeld}
 use Rattle.rpki_rules.specs.Words.{Each}
 use Rattle.rpki_rules.specs.World.{World}
-use Rattle.rpki_steps.specs.declared.places.files.File.{File}
-use Rattle.rpki_steps.specs.PlaceFiles.{AreFilesIn, AreFilesOf, NoFilesIn, NoFilesOf}
+use Rattle.rpki_steps.specs.declared.point.files.File.{File}
+use Rattle.rpki_steps.specs.PointFiles.{AreFilesIn, AreFilesOf, NoFilesIn, NoFilesOf}
 
 module _ (object : List ℕ → Option (List ℕ)) (ca : Cert) (m : Manifest) where
   -- The authority names no repository.

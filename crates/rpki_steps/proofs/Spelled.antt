@@ -2,10 +2,10 @@
 use Rattle.std.proofs.Common.{◌≡◌, ◌⊎◌, inl, inr, ℕ, Bool, true, false, List, [], ◌∷◌, All, Some, bytes_eq, if◌then◌else◌, refl, subst}
 use Rattle.std.proofs.lemmas.List.Elements.{All-head, All-tail}
 use Rattle.std.proofs.lemmas.Slice.Eq.{bytes_eq-Decides}
-use Rattle.rpki_bundle.specs.declared.parts.Object.{Object}
-use Rattle.rpki_bundle.specs.Bundle.{BundleText, BundleValue}
-use Rattle.rpki_bundle.specs.Lawful.{IsLawfulObject}
-use Rattle.rpki_bundle.proofs.Texts.{text_lawful}
+use Rattle.rpki_rules.specs.rpki_bundle.declared.parts.Object.{Object}
+use Rattle.rpki_rules.specs.rpki_bundle.Bundle.{BundleText, BundleValue}
+use Rattle.rpki_rules.specs.rpki_bundle.Lawful.{IsLawfulObject}
+use Rattle.rpki_rules.proofs.of_rpki_bundle.Texts.{text_lawful}
 use Rattle.rpki_standing.specs.certs_basics.Uris.{IsUri}
 use Rattle.rpki_rules.specs.World.{find_object}
 

@@ -9,19 +9,19 @@ use Rattle.rpki_rules.specs.Points.{IsPoint, Point}
 use Rattle.rpki_rules.specs.World.{World}
 use Rattle.rpki_standing.specs.Standing.{IsStanding, StandingValue}
 use Rattle.rpki_standing.proofs.OwnManifests.{one_read, own_has}
-use Rattle.rpki_steps.specs.declared.places.files.File.{File}
-use Rattle.rpki_steps.specs.declared.places.standing.Point.{Point as Place}
-use Rattle.rpki_steps.specs.PlaceFiles.{AreFilesOf}
+use Rattle.rpki_steps.specs.declared.point.files.File.{File}
+use Rattle.rpki_steps.specs.declared.point.standing.Point.{Point as Found}
+use Rattle.rpki_steps.specs.PointFiles.{AreFilesOf}
 use Rattle.rpki_steps.specs.Parts.{ArePartsOf, HasNoParts}
-use Rattle.rpki_steps.specs.Places.{FindsPoint, IsStandingPlace}
+use Rattle.rpki_steps.specs.PointOctets.{FindsPoint, IsFoundStanding}
 use Rattle.rpki_steps.proofs.RepositoryFiles.{files_there}
 
 module _ (w : World) (ca : Cert) (s : StandingValue) (is : IsStanding w ca s) where
   -- A point that stands, with its parts.
-  pub parts_stand : (uri : List ℕ) (fs : List File) (place : Place) → ArePartsOf w.object ca s.point uri fs
-      → place.manifest_cert ≡ s.point.object.cert → place.files.items ≡ fs → place.crl_uri ≡ uri → place.crl ≡ s.point.crl
-      → IsStandingPlace (IsPoint w ca) w ca place
-  parts_stand uri fs place are cert listed named list = record {
+  pub parts_stand : (uri : List ℕ) (fs : List File) (found : Found) → ArePartsOf w.object ca s.point uri fs
+      → found.manifest_cert ≡ s.point.object.cert → found.files.items ≡ fs → found.crl_uri ≡ uri → found.crl ≡ s.point.crl
+      → IsFoundStanding (IsPoint w ca) w ca found
+  parts_stand uri fs found are cert listed named list = record {
     point = s.point;
     standing = is.point;
     told = record {
@@ -50,9 +50,9 @@ module _ (w : World) (held : Kind → ℕ → Type 0) (ca : Cert) where
   pub none_stands : FindsPoint (IsPoint w ca) w ca None → FindsPoint (StandsIn w held ca) w ca None
   none_stands n = λ p s. n p s.point
 
-  module _ (place : Place) (is : IsStandingPlace (IsPoint w ca) w ca place) where
+  module _ (found : Found) (is : IsFoundStanding (IsPoint w ca) w ca found) where
     -- The claim of its manifest's certificate fits.
-    pub fits_there : Fits held place.manifest_cert → IsStandingPlace (StandsIn w held ca) w ca place
+    pub fits_there : Fits held found.manifest_cert → IsFoundStanding (StandsIn w held ca) w ca found
     fits_there fits = record {
       point = is.point;
       standing = record { point = is.standing; fits = subst (Fits held) is.told.manifest_cert_is fits };
@@ -60,7 +60,7 @@ module _ (w : World) (held : Kind → ℕ → Type 0) (ca : Cert) where
     }
 
     -- It doesn't.
-    pub none_fits : ¬ (Fits held place.manifest_cert) → (p : Point) → ¬ (StandsIn w held ca p)
+    pub none_fits : ¬ (Fits held found.manifest_cert) → (p : Point) → ¬ (StandsIn w held ca p)
     none_fits unfit p s =
-        let same : p.object.cert ≡ place.manifest_cert = same_cert w ca p is.point s.point is.standing ∙ sym is.told.manifest_cert_is in
+        let same : p.object.cert ≡ found.manifest_cert = same_cert w ca p is.point s.point is.standing ∙ sym is.told.manifest_cert_is in
         unfit (subst (Fits held) same s.fits)

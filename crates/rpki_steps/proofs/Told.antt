@@ -6,9 +6,9 @@ use Rattle.rpki_rules.specs.Objects.{File as Listed}
 use Rattle.rpki_rules.specs.Points.{IsHeld, files, files_in}
 use Rattle.rpki_rules.specs.Words.{Each}
 use Rattle.rpki_rules.specs.World.{World}
-use Rattle.rpki_steps.specs.declared.places.files.File.{File}
-use Rattle.rpki_steps.specs.PlaceFiles.{AreFilesIn, FilesAreListed}
-use Rattle.rpki_steps.specs.Places.{FilesHaveHashes}
+use Rattle.rpki_steps.specs.declared.point.files.File.{File}
+use Rattle.rpki_steps.specs.PointFiles.{AreFilesIn, FilesAreListed}
+use Rattle.rpki_steps.specs.PointOctets.{FilesHaveHashes}
 
 keys_in : (object : List ℕ → Option (List ℕ)) (folder : List ℕ) (ls : List Listed) (fs : List File) → AreFilesIn object folder ls fs
     → map (λ (f : File). lookup_key f.uri) fs ≡ map (λ (l : Listed). lookup_key (join folder l.name)) ls
@@ -37,9 +37,9 @@ hashes_in w folder (l ∷ ls) (f ∷ fs) e h =
     λ i. first i ∷ others i
 
 pub have_hashes : FilesHaveHashes
-have_hashes w ca p place is told =
+have_hashes w ca p found is told =
     let h = is.files in
     let a = told.files_are in
     let both : Some a.repository ≡ Some h.folder = sym a.repository_is ∙ h.folder_is in
     let same : a.repository ≡ h.folder = cc in
-    hashes_in w h.folder p.manifest.files place.files.items h.each (subst (λ (r : List ℕ). AreFilesIn w.object r p.manifest.files place.files.items) same a.listed)
+    hashes_in w h.folder p.manifest.files found.files.items h.each (subst (λ (r : List ℕ). AreFilesIn w.object r p.manifest.files found.files.items) same a.listed)

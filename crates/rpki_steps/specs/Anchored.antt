@@ -12,7 +12,8 @@ use Rattle.rpki_rules.specs.Points.{IsAnchorCert}
 use Rattle.rpki_steps.specs.Holders.{cert_of, sets_of}
 
 -- The certificate is one of a trust anchor with that key, and was verified: with what it lists, by the locator of that name.
-pub record IsFoundAnchor (w : World) (key : Key) (tal : String Global) (c : Cert) (r : ResourceCertValue) : Type 0 where
+pub record IsFoundAnchor (w : World) (key : Key) (tal : String Global) (c : Cert)
+    (r : ResourceCertValue) : Type 0 where
   pub same : cert_of r ≡ c
   pub anchor : IsAnchorCert w key c
   pub holds : HasListed c (sets_of r)

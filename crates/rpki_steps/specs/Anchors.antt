@@ -6,7 +6,7 @@ use Rattle.std.specs.String.{string_bytes}
 use Rattle.rpki_steps.specs.Holders.{cert_of, sets_of}
 use Rattle.rpki_steps.specs.certs_basics.Lists.{FirstFailing}
 use Rattle.rpki_steps.specs.certs_verify.Holders.{ResourceCertValue}
-use Rattle.rpki_steps.specs.declared.anchors.TrustAnchor.{TrustAnchor}
+use Rattle.rpki_steps.specs.declared.anchor.locator.TrustAnchor.{TrustAnchor}
 use Rattle.rpki_rules.specs.Certs.{Cert, CertText, Key}
 use Rattle.rpki_rules.specs.declared.reason.locators.LocatorReason.TheVariants.{BadText, NoneHeld, NoCert, BadAnchor}
 use Rattle.rpki_rules.specs.LocatorReasons.{LocatorFails, PassesAnchor, tests_of_anchors}

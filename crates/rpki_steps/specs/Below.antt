@@ -23,7 +23,8 @@ pub record IsBelow (w : World) (held : Kind → ℕ → Type 0) (ca c : Cert) : 
   pub fits : Fits held c
 
 -- The certificate is below the issuer, and was verified: with what it then holds, by its issuer's locator.
-pub record IsFoundBelow (w : World) (issuer : ResourceCertValue) (c : Cert) (r : ResourceCertValue) : Type 0 where
+pub record IsFoundBelow (w : World) (issuer : ResourceCertValue) (c : Cert)
+    (r : ResourceCertValue) : Type 0 where
   pub same : cert_of r ≡ c
   pub below : IsBelow w (InSet (sets_of issuer)) (cert_of issuer) c
   pub holds : HasKept (InSet (sets_of issuer)) c (sets_of r)

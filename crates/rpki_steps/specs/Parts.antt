@@ -2,8 +2,8 @@
 use Rattle.std.specs.Prelude.{◌≡◌, ℕ, List, Option, Some}
 use Rattle.rpki_rules.specs.Certs.{Cert}
 use Rattle.rpki_rules.specs.Points.{Point}
-use Rattle.rpki_steps.specs.declared.places.files.File.{File}
-use Rattle.rpki_steps.specs.PlaceFiles.{AreFilesOf}
+use Rattle.rpki_steps.specs.declared.point.files.File.{File}
+use Rattle.rpki_steps.specs.PointFiles.{AreFilesOf}
 
 -- The certificate of the point's manifest names the revocation list by that URI, and these are the files that the manifest
 -- lists. `object` gives the octets of the object with a lookup key.

@@ -1,4 +1,5 @@
-//! A bundle with what digests and verifies, and how the walk reads it.
+//! A bundle with what digests and verifies, and how the walk reads it. Beside it, as modules, how it is asked what its locators
+//! and authorities name, why something is refused, and by the judge.
 
 ghost use Rattle.std.specs.Prelude.{◌≡◌};
 ghost use Rattle.rpki_steps.specs.Holders.{cert_of, sets_of};
@@ -7,10 +8,14 @@ ghost use Rattle.rpki_rules.specs.World.{world_of};
 ghost use Rattle.rpki_standing.specs.Views.{payload_of};
 ghost use Rattle.rpki_steps.specs.Points.{point_of};
 
-use crate::anchors::read_locator;
+pub mod diagnosing;
+pub mod evidence;
+pub mod naming;
+
+use crate::anchor::locator::read_locator;
 use crate::authority::Authority;
-use crate::files::read_file;
-use crate::points::find_point;
+use crate::file::read_file;
+use crate::point::held::find_point;
 use bytes::Bytes;
 use certs_verify::{Digester, Verifier};
 use rpki_standing::StandingPoint;

@@ -8,20 +8,17 @@ ghost use Rattle.rpki_validator.specs.rpki_rules.World.{world_of};
 ghost use Rattle.rpki_rules.specs.DiagnosisViews.{AreDiagnoses};
 ghost use Rattle.rpki_rules.specs.Report.{IsReport};
 ghost use Rattle.rpki_rules.specs.Views.{witness_of, path_of};
-ghost use Rattle.rpki_walk.specs.Chained.{AreNamingChains};
-ghost use Rattle.rpki_walk.specs.Cost.{IsCost};
+ghost use Rattle.rpki_validator.specs.rpki_walk.Chained.{AreNamingChains};
+ghost use Rattle.rpki_validator.specs.rpki_walk.Cost.{IsCost};
 ghost use Rattle.rpki_steps.specs.rpki_judge.Counted.{ReadsPoints, may_ask_reading};
-ghost use Rattle.rpki_walk.specs.Naming.{answer_of};
-ghost use Rattle.rpki_walk.specs.Printed.{AreLines};
+ghost use Rattle.rpki_validator.specs.rpki_walk.Naming.{answer_of};
+ghost use Rattle.rpki_validator.specs.rpki_walk.Printed.{AreLines};
 
 use bytes::Bytes;
 use rpki_bundle::{Bundle, Digester, Verifier};
 use rpki_rules::reason::Diagnosis;
 use rpki_rules::{Path, Report, Witness};
-use rpki_steps::climb::Judgement;
-use rpki_steps::{BundleRepository, Index};
-use rpki_walk::cost::Cost;
-use rpki_walk::reach::Reach;
+use rpki_steps::{BundleRepository, Cost, Index, Judgement, Reach};
 use std::alloc::{AllocError, Global};
 use std::rc::Rc;
 
@@ -39,7 +36,7 @@ pub fn walk<D: Digester, V: Verifier>(
     ensures same { V.says verifier.new ≡ V.says verifier.old }
 {
     let mut repository = BundleRepository::new(Index::new(bundle), digester, verifier);
-    let report = rpki_walk::walk(alloc, &mut repository);
+    let report = rpki_steps::walk(alloc, &mut repository);
     // So the caller's verifier is the one that was asked.
     let BundleRepository {
         verifier: asked,
@@ -64,7 +61,7 @@ pub fn walk_lines<D: Digester, V: Verifier>(
     ensures same { V.says verifier.new ≡ V.says verifier.old }
 {
     let mut repository = BundleRepository::new(Index::new(bundle), digester, verifier);
-    let report = rpki_walk::walk_lines(alloc, &mut repository);
+    let report = rpki_steps::walk_lines(alloc, &mut repository);
     // So the caller's verifier is the one that was asked.
     let BundleRepository {
         verifier: asked,
@@ -89,7 +86,7 @@ pub fn diagnose<D: Digester, V: Verifier>(
     ensures same { V.says verifier.new ≡ V.says verifier.old }
 {
     let mut repository = BundleRepository::new(Index::new(bundle), digester, verifier);
-    let diagnosed = rpki_walk::diagnose(alloc, &mut repository);
+    let diagnosed = rpki_steps::diagnose(alloc, &mut repository);
     // So the caller's verifier is the one that was asked.
     let BundleRepository {
         verifier: asked,
@@ -130,7 +127,7 @@ pub fn judge_by<D: Digester, V: Verifier>(
 {
     let locator = witness.locator().as_slice();
     let object = witness.object().as_slice();
-    rpki_steps::climb::judge(alloc, evidence, locator, witness.chain(), object)
+    rpki_steps::judge(alloc, evidence, locator, witness.chain(), object)
 }
 
 /// Whether the witness is one of those that a walk of the bundle lists, by this digester and this verifier. It is read from
@@ -182,7 +179,7 @@ pub fn reach<D: Digester, V: Verifier>(
     ensures same { V.says verifier.new ≡ V.says verifier.old }
 {
     let mut repository = BundleRepository::new(Index::new(bundle), digester, verifier);
-    let reached = rpki_walk::reach::whole::reach(alloc, &mut repository, uris);
+    let reached = rpki_steps::reach(alloc, &mut repository, uris);
     // So the caller's verifier is the one that was asked.
     let BundleRepository {
         verifier: asked,
@@ -207,7 +204,7 @@ pub fn naming_chains<D: Digester, V: Verifier>(
     ensures same { V.says verifier.new ≡ V.says verifier.old }
 {
     let mut repository = BundleRepository::new(Index::new(bundle), digester, verifier);
-    let chains = rpki_walk::reach::naming_chains(alloc, &mut repository, uris);
+    let chains = rpki_steps::naming_chains(alloc, &mut repository, uris);
     // So the caller's verifier is the one that was asked.
     let BundleRepository {
         verifier: asked,
@@ -232,7 +229,7 @@ pub fn cost<D: Digester, V: Verifier>(
     ensures same { V.says verifier.new ≡ V.says verifier.old }
 {
     let mut repository = BundleRepository::new(Index::new(bundle), digester, verifier);
-    let counted = rpki_walk::cost::cost(alloc, &mut repository, budget);
+    let counted = rpki_steps::cost(alloc, &mut repository, budget);
     // So the caller's verifier is the one that was asked.
     let BundleRepository {
         verifier: asked,

@@ -5,12 +5,11 @@ ghost use Rattle.rpki_validator.specs.Judging.{JudgingAgreesWithWalking};
 ghost use Rattle.rpki_rules.specs.Versions.{RelaxedKeeps};
 
 pub use rpki_bundle::laws::bundle_length;
-pub use rpki_rules::laws::upgrade_stays;
-pub use rpki_rules::reason::laws::refusals_are_diagnosed;
-pub use rpki_steps::climb::laws::{
-    cut_down_keeps, deeper_keeps, verdict_removal, what_is_attested_is_listed,
+pub use rpki_rules::laws::{
+    cut_down_keeps, deeper_keeps, upgrade_stays, verdict_removal, what_is_attested_is_listed,
 };
-use rpki_steps::climb::laws::{locators_stay, outside_stays, refusals_stay, untouched_output};
+use rpki_rules::laws::{locators_stay, outside_stays, refusals_stay, untouched_output};
+pub use rpki_rules::reason::laws::refusals_are_diagnosed;
 
 /// Forging the objects at some URIs changes no line of an origin or a customer outside what these URIs reach, whatever the
 /// forged objects are.

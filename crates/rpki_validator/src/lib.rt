@@ -17,10 +17,9 @@ pub use rpki_bundle::{Bundle, BundleError, Digester, Locator, Object, Time, Verd
 pub use rpki_rules::lines::render;
 pub use rpki_rules::refusal::word_of;
 pub use rpki_rules::{Cause, Customer, Origin, Path, Refusal, Report, Witness, reason};
-pub use rpki_steps::BundleRepository;
-pub use rpki_steps::climb::{Index, Judgement, TableVerifier};
-pub use rpki_steps::places::{File, Point, point, point_unheld};
-pub use rpki_walk::cost::{Cost, Count};
-pub use rpki_walk::reach::{Reach, ResourceSet};
+pub use rpki_steps::point::{File, Point, point, point_unheld};
+pub use rpki_steps::{
+    BundleRepository, Cost, Count, Index, Judgement, Reach, ResourceSet, TableVerifier,
+};
 pub use runs::{RunError, read_bundle, run};
 pub use streams::{WriteFault, write_all};

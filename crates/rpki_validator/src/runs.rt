@@ -17,7 +17,7 @@ use rpki_bundle::laws::bundle_length;
 use rpki_bundle::{Bundle, BundleError, Digester};
 use rpki_rules::Report;
 use rpki_rules::lines::render;
-use rpki_steps::climb::TableVerifier;
+use rpki_steps::TableVerifier;
 use std::alloc::{AllocError, Global};
 use std::io::{Read, Write};
 use thiserror::Error;

@@ -10,33 +10,13 @@ use crate::written::extension::{ExtensionEncoder, encode_extension};
 use crate::written::parts::{Context0, Identifier, Sequence, UriName};
 use certs_extension::{Https, Rsync};
 use certs_key::encode::{EncodeError, Values};
-use certs_key::{ConstOid, Mode, Oid};
+use certs_key::oid::{
+    AD_CA_ISSUERS, AD_CA_REPOSITORY, AD_RPKI_MANIFEST, AD_RPKI_NOTIFY, AD_SIGNED_OBJECT,
+    CE_CRL_DISTRIBUTION_POINTS, PE_AUTHORITY_INFO_ACCESS, PE_SUBJECT_INFO_ACCESS,
+};
+use certs_key::{ConstOid, Mode};
 use std::io::Write;
 use std::marker::Model;
-
-// cRLDistributionPoints, 2.5.29.31 (RFC 5280 4.2.1.13).
-const CE_CRL_DISTRIBUTION_POINTS: ConstOid = Oid(&[85, 29, 31]);
-
-// authorityInfoAccess, 1.3.6.1.5.5.7.1.1 (RFC 5280 4.2.2.1).
-const PE_AUTHORITY_INFO_ACCESS: ConstOid = Oid(&[43, 6, 1, 5, 5, 7, 1, 1]);
-
-// subjectInfoAccess, 1.3.6.1.5.5.7.1.11 (RFC 5280 4.2.2.2).
-const PE_SUBJECT_INFO_ACCESS: ConstOid = Oid(&[43, 6, 1, 5, 5, 7, 1, 11]);
-
-// id-ad-caIssuers, 1.3.6.1.5.5.7.48.2 (RFC 5280 4.2.2.1).
-const AD_CA_ISSUERS: ConstOid = Oid(&[43, 6, 1, 5, 5, 7, 48, 2]);
-
-// id-ad-caRepository, 1.3.6.1.5.5.7.48.5 (RFC 5280 4.2.2.2).
-const AD_CA_REPOSITORY: ConstOid = Oid(&[43, 6, 1, 5, 5, 7, 48, 5]);
-
-// id-ad-rpkiManifest, 1.3.6.1.5.5.7.48.10 (RFC 6487 4.8.8.1).
-const AD_RPKI_MANIFEST: ConstOid = Oid(&[43, 6, 1, 5, 5, 7, 48, 10]);
-
-// id-ad-signedObject, 1.3.6.1.5.5.7.48.11 (RFC 6487 4.8.8.2).
-const AD_SIGNED_OBJECT: ConstOid = Oid(&[43, 6, 1, 5, 5, 7, 48, 11]);
-
-// id-ad-rpkiNotify, 1.3.6.1.5.5.7.48.13 (RFC 8182 3.2).
-const AD_RPKI_NOTIFY: ConstOid = Oid(&[43, 6, 1, 5, 5, 7, 48, 13]);
 
 /// Where the revocation list is found: one distribution point with one full name, a URI (RFC 6487
 /// 4.8.6). Contracts see the URI.

@@ -9,16 +9,11 @@ ghost use Rattle.certs.specs.Values.{extended, extended_if, subject_key};
 use crate::written::extension::{ExtensionEncoder, encode_extension};
 use crate::written::parts::Sequence;
 use certs_key::encode::{EncodeError, Values};
+use certs_key::oid::{CE_AUTHORITY_KEY_IDENTIFIER, CE_SUBJECT_KEY_IDENTIFIER};
 use certs_key::string::OctetSliceEncoder;
-use certs_key::{ConstOid, KeyIdentifier, Mode, Oid, Tag};
+use certs_key::{KeyIdentifier, Mode, Tag};
 use std::io::Write;
 use std::marker::Model;
-
-// subjectKeyIdentifier, 2.5.29.14 (RFC 5280 4.2.1.2).
-const CE_SUBJECT_KEY_IDENTIFIER: ConstOid = Oid(&[85, 29, 14]);
-
-// authorityKeyIdentifier, 2.5.29.35 (RFC 5280 4.2.1.1).
-const CE_AUTHORITY_KEY_IDENTIFIER: ConstOid = Oid(&[85, 29, 35]);
 
 /// The identifier of the subject's key: an OCTET STRING (RFC 6487 4.8.2). Contracts see the octets.
 #[derive(Drop)]

@@ -9,12 +9,10 @@ use crate::written::extension::{ExtensionEncoder, encode_extension};
 use crate::written::parts::{Identifier, Sequence};
 use certs_extension::{Overclaim, OverclaimIds};
 use certs_key::encode::{EncodeError, Values};
-use certs_key::{ConstOid, Mode, Oid};
+use certs_key::oid::CE_CERTIFICATE_POLICIES;
+use certs_key::{ConstOid, Mode};
 use std::io::Write;
 use std::marker::Model;
-
-// certificatePolicies, 2.5.29.32 (RFC 5280 4.2.1.4).
-const CE_CERTIFICATE_POLICIES: ConstOid = Oid(&[85, 29, 32]);
 
 /// The policy: `SEQUENCE { SEQUENCE { policyIdentifier OBJECT IDENTIFIER } }` (RFC 6487 4.8.9).
 /// Contracts see which it is.

@@ -10,19 +10,11 @@ use crate::written::extension::{ExtensionEncoder, encode_extension};
 use crate::written::parts::{Sequence, Truth};
 use certs_extension::usage::EncodeUsage;
 use certs_extension::{ExtendedKeyUsage, KeyUsage, KeyUsageValue};
+use certs_key::Mode;
 use certs_key::encode::{EncodeError, Values};
-use certs_key::{ConstOid, Mode, Oid};
+use certs_key::oid::{CE_BASIC_CONSTRAINTS, CE_EXTENDED_KEY_USAGE, CE_KEY_USAGE};
 use std::io::Write;
 use std::marker::Model;
-
-// keyUsage, 2.5.29.15 (RFC 5280 4.2.1.3).
-const CE_KEY_USAGE: ConstOid = Oid(&[85, 29, 15]);
-
-// basicConstraints, 2.5.29.19 (RFC 5280 4.2.1.9).
-const CE_BASIC_CONSTRAINTS: ConstOid = Oid(&[85, 29, 19]);
-
-// extKeyUsage, 2.5.29.37 (RFC 5280 4.2.1.12).
-const CE_EXTENDED_KEY_USAGE: ConstOid = Oid(&[85, 29, 37]);
 
 /// Whether the subject is an authority: `SEQUENCE { cA BOOLEAN DEFAULT FALSE }`, which is empty where
 /// it isn't (RFC 6487 4.8.1). Contracts see whether it is.

@@ -9,12 +9,9 @@ ghost use Rattle.certs_extension.specs.Grammars.{IsAuthority, IsIssuer, IsIssuer
 
 use crate::access::names::take_one_rsync;
 use certs_basics::decode::{Constructed, DecodeError, Source};
+use certs_basics::oid::AD_CA_ISSUERS;
 use certs_basics::uri::Rsync;
-use certs_basics::{ConstOid, Oid};
 use std::alloc::Global;
-
-// id-ad-caIssuers, 1.3.6.1.5.5.7.48.2 (RFC 5280 4.2.2.1).
-const CA_ISSUERS: ConstOid = Oid(&[43, 6, 1, 5, 5, 7, 48, 2]);
 
 // The fields of an access description.
 fn take_issuer<S: Source>(
@@ -24,7 +21,7 @@ fn take_issuer<S: Source>(
     ensures { ReadsFields issuer_fields IsIssuerBody (here S.rest cons.old) result
         (here S.rest cons.new) }
 {
-    CA_ISSUERS.skip_if(cons)?;
+    AD_CA_ISSUERS.skip_if(cons)?;
     let uri = take_one_rsync(alloc, cons)?;
     Ok(uri)
 }

@@ -15,22 +15,11 @@ ghost use Rattle.certs_extension.specs.Grammars.{IsName, one_field};
 use crate::access::names::take_name;
 use bytes::Bytes;
 use certs_basics::decode::{Constructed, ContentError, DecodeError, Source};
+use certs_basics::oid::{AD_CA_REPOSITORY, AD_RPKI_MANIFEST, AD_RPKI_NOTIFY, AD_SIGNED_OBJECT};
 use certs_basics::uri::{Https, Rsync};
-use certs_basics::{ConstOid, Ia5String, Oid};
+use certs_basics::{Ia5String, Oid};
 use std::alloc::Global;
 use std::marker::Model;
-
-// id-ad-caRepository, 1.3.6.1.5.5.7.48.5 (RFC 5280 4.2.2.2).
-const CA_REPOSITORY: ConstOid = Oid(&[43, 6, 1, 5, 5, 7, 48, 5]);
-
-// id-ad-rpkiManifest, 1.3.6.1.5.5.7.48.10 (RFC 6487 4.8.8.1).
-const RPKI_MANIFEST: ConstOid = Oid(&[43, 6, 1, 5, 5, 7, 48, 10]);
-
-// id-ad-signedObject, 1.3.6.1.5.5.7.48.11 (RFC 6487 4.8.8.2).
-const SIGNED_OBJECT: ConstOid = Oid(&[43, 6, 1, 5, 5, 7, 48, 11]);
-
-// id-ad-rpkiNotify, 1.3.6.1.5.5.7.48.13 (RFC 8182 3.2).
-const RPKI_NOTIFY: ConstOid = Oid(&[43, 6, 1, 5, 5, 7, 48, 13]);
 
 /// Where the subject publishes: the first readable URI of each method.
 #[derive(Debug, Drop)]
@@ -76,10 +65,10 @@ struct Description {
 fn is_known(method: &Oid) -> bool
     ensures { IsTrue result ↔ Mem methods method.now.0 }
 {
-    method.equals(&CA_REPOSITORY)
-        || method.equals(&RPKI_MANIFEST)
-        || method.equals(&SIGNED_OBJECT)
-        || method.equals(&RPKI_NOTIFY)
+    method.equals(&AD_CA_REPOSITORY)
+        || method.equals(&AD_RPKI_MANIFEST)
+        || method.equals(&AD_SIGNED_OBJECT)
+        || method.equals(&AD_RPKI_NOTIFY)
 }
 
 // The one name after a known method.
@@ -171,19 +160,19 @@ impl SubjectAccess {
     fn keep(&mut self, method: &Oid, text: Bytes)
         ensures { AddsEntry (as_entry (method.now.0, Some text)) self.old self.new }
     {
-        if method.equals(&CA_REPOSITORY) {
+        if method.equals(&AD_CA_REPOSITORY) {
             keep_rsync(&mut self.repository, text);
             return;
         }
-        if method.equals(&RPKI_MANIFEST) {
+        if method.equals(&AD_RPKI_MANIFEST) {
             keep_rsync(&mut self.manifest, text);
             return;
         }
-        if method.equals(&SIGNED_OBJECT) {
+        if method.equals(&AD_SIGNED_OBJECT) {
             keep_rsync(&mut self.object, text);
             return;
         }
-        if !method.equals(&RPKI_NOTIFY) {
+        if !method.equals(&AD_RPKI_NOTIFY) {
             return;
         }
         keep_https(&mut self.notify, text);

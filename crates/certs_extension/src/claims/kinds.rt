@@ -4,35 +4,13 @@ ghost use Rattle.std.specs.Prelude.{MatchOption};
 ghost use Rattle.certs_extension.specs.certs_basics.Lists.{Mem};
 ghost use Rattle.certs_extension.specs.ExtensionKinds.{IsNamed, key_kinds, octets_of, place_kinds, resource_kinds};
 
+use crate::Oid;
 use crate::forms::{Overclaim, OverclaimIds};
-use crate::{ConstOid, Oid};
-
-/// subjectKeyIdentifier, 2.5.29.14 (RFC 5280 4.2.1.2).
-const CE_SUBJECT_KEY_IDENTIFIER: ConstOid = Oid(&[85, 29, 14]);
-
-/// keyUsage, 2.5.29.15 (RFC 5280 4.2.1.3).
-const CE_KEY_USAGE: ConstOid = Oid(&[85, 29, 15]);
-
-/// basicConstraints, 2.5.29.19 (RFC 5280 4.2.1.9).
-const CE_BASIC_CONSTRAINTS: ConstOid = Oid(&[85, 29, 19]);
-
-/// cRLDistributionPoints, 2.5.29.31 (RFC 5280 4.2.1.13).
-const CE_CRL_DISTRIBUTION_POINTS: ConstOid = Oid(&[85, 29, 31]);
-
-/// certificatePolicies, 2.5.29.32 (RFC 5280 4.2.1.4).
-const CE_CERTIFICATE_POLICIES: ConstOid = Oid(&[85, 29, 32]);
-
-/// authorityKeyIdentifier, 2.5.29.35 (RFC 5280 4.2.1.1).
-const CE_AUTHORITY_KEY_IDENTIFIER: ConstOid = Oid(&[85, 29, 35]);
-
-/// extKeyUsage, 2.5.29.37 (RFC 5280 4.2.1.12).
-const CE_EXTENDED_KEY_USAGE: ConstOid = Oid(&[85, 29, 37]);
-
-/// authorityInfoAccess, 1.3.6.1.5.5.7.1.1 (RFC 5280 4.2.2.1).
-const PE_AUTHORITY_INFO_ACCESS: ConstOid = Oid(&[43, 6, 1, 5, 5, 7, 1, 1]);
-
-/// subjectInfoAccess, 1.3.6.1.5.5.7.1.11 (RFC 5280 4.2.2.2).
-const PE_SUBJECT_INFO_ACCESS: ConstOid = Oid(&[43, 6, 1, 5, 5, 7, 1, 11]);
+use certs_basics::oid::{
+    CE_AUTHORITY_KEY_IDENTIFIER, CE_BASIC_CONSTRAINTS, CE_CERTIFICATE_POLICIES,
+    CE_CRL_DISTRIBUTION_POINTS, CE_EXTENDED_KEY_USAGE, CE_KEY_USAGE, CE_SUBJECT_KEY_IDENTIFIER,
+    PE_AUTHORITY_INFO_ACCESS, PE_SUBJECT_INFO_ACCESS,
+};
 
 /// A kind of extensions.
 #[derive(Clone, Copy, Debug, PartialEq, Eq)]

@@ -14,9 +14,9 @@ ghost use Rattle.certs_key.specs.certs_basics.Basics.{IsAlgorithm};
 ghost use Rattle.certs_key.specs.certs_basics.Identifiers.{rsa_encryption, sha256_with_rsa};
 
 use crate::algorithm::identifier::AlgorithmIdentifier;
-use crate::algorithm::oid::{RSA_ENCRYPTION, SHA256_WITH_RSA_ENCRYPTION};
+use certs_name::Tag;
 use certs_name::decode::{Constructed, ContentError, DecodeError, Primitive, Source};
-use certs_name::{ConstOid, Tag};
+use certs_name::oid::{RSA_ENCRYPTION, SHA256_WITH_RSA_ENCRYPTION};
 use std::marker::Model;
 
 /// An algorithm by which certificates and lists are signed.

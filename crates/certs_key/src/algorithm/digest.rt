@@ -10,8 +10,8 @@ ghost use Rattle.certs_key.specs.bcder_content.InMode.{ReadsFields};
 ghost use Rattle.certs_key.specs.Algorithms.{AreDigestAlgorithms, AreFields, IsDigestAlgorithm, sha256, fields_of};
 
 use crate::algorithm::identifier::AlgorithmIdentifier;
-use crate::algorithm::oid::SHA256;
 use certs_name::decode::{Constructed, DecodeError, Source};
+use certs_name::oid::SHA256;
 use certs_name::{Tag, encode};
 
 /// The algorithm of digests in RPKI, which is SHA-256.

@@ -12,7 +12,8 @@ ghost use Rattle.objects.specs.declared.again.making.ManifestError.TheVariants.{
 
 use bytes::Bytes;
 use certs::written::{EncodeError, Identifier, Sequence, SerialValue, Time, Values};
-use certs_key::{Captured, ConstOid, Mode, Oid, Serial};
+use certs_key::oid::SHA256;
+use certs_key::{Captured, Mode, Serial};
 use objects_cms::manifest::file::is_file_name;
 use objects_cms::manifest::{FileAndHash, ManifestContent};
 use objects_written::EncodeFile;
@@ -20,9 +21,6 @@ use std::alloc::{AllocError, Global};
 use std::io::Write;
 use std::marker::Model;
 use thiserror::Error as ThisError;
-
-// id-sha256, 2.16.840.1.101.3.4.2.1 (RFC 5754 2.2): the algorithm of the hashes (RFC 9286 4.2.1, RFC 7935 2).
-const SHA256: ConstOid = Oid(&[96, 134, 72, 1, 101, 3, 4, 2, 1]);
 
 // How many octets a SHA-256 digest has.
 const HASH_LEN: usize = 32;

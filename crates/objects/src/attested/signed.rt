@@ -15,12 +15,10 @@ ghost use Rattle.objects.specs.Written.{aspa};
 use crate::attested::builder::AspaBuilder;
 use crate::issued::refusing::unwritten;
 use certs_extension::{AsResources, IpResources};
+use certs_key::oid::CT_ASPA;
 use certs_key::{Captured, Digester, Signer, SigningError};
 use objects_written::SignedObjectBuilder;
 use std::alloc::{AllocError, Global};
-
-// id-ct-ASPA, 1.2.840.113549.1.9.16.1.49 (draft-ietf-sidrops-aspa-profile 2).
-const CONTENT_TYPE: &[u8] = &[42, 134, 72, 134, 247, 13, 1, 9, 16, 1, 49];
 
 // The content of an attestation, in DER.
 fn content_of<E>(alloc: Global, attestation: &AspaBuilder) -> Result<Captured, SigningError<E>>
@@ -91,7 +89,7 @@ fn sign<S: Signer, D: Digester>(
             Ok(fields) => {
                 let octets = fields.finalize(
                     alloc,
-                    CONTENT_TYPE,
+                    CT_ASPA.0,
                     content.as_slice(),
                     signer,
                     issuer_key,

@@ -14,13 +14,11 @@ ghost use Rattle.objects.specs.objects_written.Manifests.{IsManifestNumber, mani
 
 use crate::issued::refusing::unwritten;
 use certs_key::laws::serials_are_small;
+use certs_key::oid::CT_RPKI_MANIFEST;
 use certs_key::{Captured, Digester, Signer, SigningError};
 use objects_cms::manifest::ManifestContent;
 use objects_written::{EncodeManifest, SignedObjectBuilder};
 use std::alloc::Global;
-
-// id-ct-rpkiManifest, 1.2.840.113549.1.9.16.1.26 (RFC 9286 4.1).
-const CONTENT_TYPE: &[u8] = &[42, 134, 72, 134, 247, 13, 1, 9, 16, 1, 26];
 
 // The content of a manifest, in DER; its number is one that a manifest may have.
 fn content_of<E>(alloc: Global, content: &ManifestContent) -> Result<Captured, SigningError<E>>
@@ -131,7 +129,7 @@ fn sign<S: Signer, D: Digester>(
     let inheriting = inherits(builder);
     let octets = inheriting.finalize(
         alloc,
-        CONTENT_TYPE,
+        CT_RPKI_MANIFEST.0,
         content.as_slice(),
         signer,
         issuer_key,

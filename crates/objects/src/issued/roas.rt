@@ -18,13 +18,11 @@ ghost use Rattle.objects.specs.Issued.{AttestsPrefixes, IsRoaFor};
 use crate::issued::addresses::resources_of;
 use crate::issued::refusing::unwritten;
 use certs_extension::{AsResources, IpResources};
+use certs_key::oid::CT_ROUTE_ORIGIN_AUTHZ;
 use certs_key::{Captured, Digester, Signer, SigningError};
 use objects_payload::roa::{RoaBuilder, RouteOriginAttestation};
 use objects_written::{EncodeRoa, SignedObjectBuilder};
 use std::alloc::{AllocError, Global};
-
-// id-ct-routeOriginAuthz, 1.2.840.113549.1.9.16.1.24 (RFC 9582 3).
-const CONTENT_TYPE: &[u8] = &[42, 134, 72, 134, 247, 13, 1, 9, 16, 1, 24];
 
 // The content of an attestation, in DER.
 fn content_of<E>(
@@ -109,7 +107,7 @@ fn sign<S: Signer, D: Digester>(
             Ok(fields) => {
                 let octets = fields.finalize(
                     alloc,
-                    CONTENT_TYPE,
+                    CT_ROUTE_ORIGIN_AUTHZ.0,
                     content.as_slice(),
                     signer,
                     issuer_key,

@@ -4,19 +4,8 @@ ghost use Rattle.std.specs.Prelude.{◌≡◌, MatchOption};
 ghost use Rattle.objects_cms.specs.Said.{octets_of};
 ghost use Rattle.objects_cms.specs.declared.attributes.kinds.Kind.{Kind as KindValue};
 
-use objects_payload::forms::{ConstOid, Oid};
-
-/// id-contentType, 1.2.840.113549.1.9.3 (RFC 5652 11.1).
-const CONTENT_TYPE: ConstOid = Oid(&[42, 134, 72, 134, 247, 13, 1, 9, 3]);
-
-/// id-messageDigest, 1.2.840.113549.1.9.4 (RFC 5652 11.2).
-const MESSAGE_DIGEST: ConstOid = Oid(&[42, 134, 72, 134, 247, 13, 1, 9, 4]);
-
-/// id-signingTime, 1.2.840.113549.1.9.5 (RFC 5652 11.3).
-const SIGNING_TIME: ConstOid = Oid(&[42, 134, 72, 134, 247, 13, 1, 9, 5]);
-
-/// id-aa-binarySigningTime, 1.2.840.113549.1.9.16.2.46 (RFC 6019 3).
-const BINARY_SIGNING_TIME: ConstOid = Oid(&[42, 134, 72, 134, 247, 13, 1, 9, 16, 2, 46]);
+use certs_key::oid::{AA_BINARY_SIGNING_TIME, CONTENT_TYPE, MESSAGE_DIGEST, SIGNING_TIME};
+use objects_payload::forms::Oid;
 
 /// A kind of attributes.
 #[derive(Clone, Copy, Debug, PartialEq, Eq)]
@@ -45,7 +34,7 @@ pub fn kind_of(oid: &Oid) -> Option<Kind>
     if oid.equals(&SIGNING_TIME) {
         return Some(Kind::SigningTime);
     }
-    if oid.equals(&BINARY_SIGNING_TIME) {
+    if oid.equals(&AA_BINARY_SIGNING_TIME) {
         return Some(Kind::BinarySigningTime);
     }
     None

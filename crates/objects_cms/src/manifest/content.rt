@@ -13,16 +13,14 @@ ghost use Rattle.objects_cms.specs.Said.{alone};
 
 use crate::manifest::list::{FileList, FileListIter};
 use certs_key::decode::{Constructed, Decode, DecodeError, IntoSource, Source};
-use certs_key::{ConstOid, Mode, Oid, Serial, Tag};
+use certs_key::oid::SHA256;
+use certs_key::{Mode, Serial, Tag};
 use objects_payload::forms::Time;
 use std::alloc::Global;
 use std::marker::Model;
 
 // The number that stands for the version (RFC 9286 4.2.1).
 const VERSION: u8 = 0;
-
-// id-sha256, 2.16.840.1.101.3.4.2.1 (RFC 5754 2.2): the algorithm of the hashes (RFC 9286 4.2.1, RFC 7935 2).
-const SHA256: ConstOid = Oid(&[96, 134, 72, 1, 101, 3, 4, 2, 1]);
 
 /// The content of a manifest: its number, the moments between which it is current, and the files that it lists.
 ///

@@ -17,11 +17,9 @@ use crate::signed::content::{Typed, take_content_info};
 use crate::signed::kept::KeptCert;
 use crate::signed::signer::SignerInfo;
 use certs_cert::decode::{Constructed, DecodeError, Source};
-use certs_cert::{ConstOid, DigestAlgorithm, Oid, Tag, beside};
+use certs_cert::{DigestAlgorithm, Tag, beside};
+use certs_key::oid::SIGNED_DATA;
 use std::alloc::Global;
-
-// id-signedData, 1.2.840.113549.1.7.2 (RFC 5652 5.1).
-const SIGNED_DATA: ConstOid = Oid(&[42, 134, 72, 134, 247, 13, 1, 7, 2]);
 
 // The number that stands for the version of signed data with signers by key identifier (RFC 5652 5.1).
 const VERSION: u8 = 3;

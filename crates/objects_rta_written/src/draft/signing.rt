@@ -22,6 +22,7 @@ ghost use Rattle.objects_rta_written.specs.Signing.{AreAttributesOf, SignsThem, 
 
 use certs::written::{Captured, EncodeError, Mode, Time, Values};
 use certs_key::decode::{Decode, DecodeError};
+use certs_key::oid::CT_RESOURCE_TAGGED_ATTESTATION;
 use certs_key::{
     Digester, KeyIdentifier, RpkiSignature, RpkiSignatureAlgorithm, Signer, SigningError,
 };
@@ -29,9 +30,6 @@ use objects_rta::SignerInfo;
 use objects_written::frame::{SignerValue, signed_attributes, signed_message};
 use std::alloc::Global;
 use std::convert::Infallible;
-
-/// id-ct-resourceTaggedAttest, 1.2.840.113549.1.9.16.1.36.
-pub(crate) const CONTENT_TYPE: &[u8] = &[42, 134, 72, 134, 247, 13, 1, 9, 16, 1, 36];
 
 // Why nothing was signed, where something can't be written.
 fn refused<E>(error: EncodeError) -> SigningError<E>
@@ -58,7 +56,7 @@ fn attributes_of<D: Digester>(
     ensures memory { IfErr result (λ e. e ≡ memory_lacks → CanTell tagged_attestation) }
 {
     let digest = digester.sha256(content);
-    signed_attributes(alloc, CONTENT_TYPE, &digest, time)
+    signed_attributes(alloc, CT_RESOURCE_TAGGED_ATTESTATION.0, &digest, time)
 }
 
 // What is signed of attributes, signed by that key.

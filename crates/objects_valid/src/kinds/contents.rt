@@ -9,19 +9,11 @@ use crate::kinds::SignedContent;
 use bcder::decode::DecodeError;
 use bytes::Bytes;
 use objects_cms::manifest::ManifestContent;
+use objects_cms::oid::{CT_ASPA, CT_ROUTE_ORIGIN_AUTHZ, CT_RPKI_MANIFEST};
 use objects_payload::aspa::AsProviderAttestation;
 use objects_payload::roa::RouteOriginAttestation;
 use std::alloc::Global;
 use std::convert::Infallible;
-
-// id-ct-rpkiManifest, 1.2.840.113549.1.9.16.1.26 (RFC 9286 4.1).
-const RPKI_MANIFEST: &[u8] = &[42, 134, 72, 134, 247, 13, 1, 9, 16, 1, 26];
-
-// id-ct-routeOriginAuthz, 1.2.840.113549.1.9.16.1.24 (RFC 9582 3).
-const ROUTE_ORIGIN_AUTHZ: &[u8] = &[42, 134, 72, 134, 247, 13, 1, 9, 16, 1, 24];
-
-// id-ct-ASPA, 1.2.840.113549.1.9.16.1.49 (draft-ietf-sidrops-aspa-profile 2).
-const ASPA: &[u8] = &[42, 134, 72, 134, 247, 13, 1, 9, 16, 1, 49];
 
 impl SignedContent for ManifestContent {
     ghost kind = { manifest };
@@ -29,7 +21,7 @@ impl SignedContent for ManifestContent {
     ghost says = { IsManifest };
 
     fn content_type() -> &'static [u8] {
-        RPKI_MANIFEST
+        CT_RPKI_MANIFEST.0
     }
 
     fn from_content(alloc: Global, octets: Bytes) -> Result<Self, DecodeError<Infallible>> {
@@ -43,7 +35,7 @@ impl SignedContent for RouteOriginAttestation {
     ghost says = { IsRoa };
 
     fn content_type() -> &'static [u8] {
-        ROUTE_ORIGIN_AUTHZ
+        CT_ROUTE_ORIGIN_AUTHZ.0
     }
 
     fn from_content(alloc: Global, octets: Bytes) -> Result<Self, DecodeError<Infallible>> {
@@ -57,7 +49,7 @@ impl SignedContent for AsProviderAttestation {
     ghost says = { IsAspa };
 
     fn content_type() -> &'static [u8] {
-        ASPA
+        CT_ASPA.0
     }
 
     fn from_content(alloc: Global, octets: Bytes) -> Result<Self, DecodeError<Infallible>> {

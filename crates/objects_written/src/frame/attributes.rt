@@ -17,20 +17,12 @@ ghost use Rattle.objects_written.specs.Orders.{SetRefused, SetText};
 
 use crate::frame::order::in_order;
 use certs::written::{Captured, EncodeError, Identifier, Mode, Sequence, Time, TimeValue, Values};
+use certs_key::Tag;
 use certs_key::encode::{Constructed, Octets, Primitive};
+use certs_key::oid::{CONTENT_TYPE, MESSAGE_DIGEST, SIGNING_TIME};
 use certs_key::string::OctetSliceEncoder;
-use certs_key::{ConstOid, Oid, Tag};
 use std::alloc::Global;
 use std::io::Write;
-
-// id-contentType, 1.2.840.113549.1.9.3 (RFC 5652 11.1).
-const CONTENT_TYPE: ConstOid = Oid(&[42, 134, 72, 134, 247, 13, 1, 9, 3]);
-
-// id-messageDigest, 1.2.840.113549.1.9.4 (RFC 5652 11.2).
-const MESSAGE_DIGEST: ConstOid = Oid(&[42, 134, 72, 134, 247, 13, 1, 9, 4]);
-
-// id-signingTime, 1.2.840.113549.1.9.5 (RFC 5652 11.3).
-const SIGNING_TIME: ConstOid = Oid(&[42, 134, 72, 134, 247, 13, 1, 9, 5]);
 
 /// A SET of the values (X.690 8.11).
 #[derive(Drop)]

@@ -9,13 +9,11 @@ use crate::frame::attributes::{OidValue, SetOf, StringValue};
 use certs::written::{
     Captured, Context0, EncodeError, Identifier, Mode, Sequence, Values, Version,
 };
+use certs_key::oid::SIGNED_DATA;
 use certs_key::string::OctetSliceEncoder;
-use certs_key::{AlgorithmIdentifier, ConstOid, DigestAlgorithm, Oid, RpkiSignatureAlgorithm, Tag};
+use certs_key::{AlgorithmIdentifier, DigestAlgorithm, RpkiSignatureAlgorithm, Tag};
 use std::io::Write;
 use std::marker::Model;
-
-// id-signedData, 1.2.840.113549.1.7.2 (RFC 5652 5.1).
-const SIGNED_DATA: ConstOid = Oid(&[42, 134, 72, 134, 247, 13, 1, 7, 2]);
 
 // The number that stands for the version of signed data, and of signers by key identifier (RFC 5652 5.1, 5.3).
 const VERSION: u8 = 3;

@@ -1,5 +1,0 @@
-use Rattle.rpki_steps.proofs.Told.{are_listed}
-use Rattle.rpki_steps.proofs.places.laws.files_are_listed.Goals as goal
-
-pub returns : goal.returns
-returns c = are_listed

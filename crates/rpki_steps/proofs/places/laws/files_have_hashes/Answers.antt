@@ -1,5 +1,0 @@
-use Rattle.rpki_steps.proofs.Told.{have_hashes}
-use Rattle.rpki_steps.proofs.places.laws.files_have_hashes.Goals as goal
-
-pub returns : goal.returns
-returns c = have_hashes
