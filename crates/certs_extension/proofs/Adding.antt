@@ -42,45 +42,45 @@ object_notify : id.signed_object ≢ id.rpki_notify
 object_notify e = cc
 
 -- One of a method with a name adds what is kept of that to this method's URI, and nothing to the others.
-pub adds_repository : (method text : List ℕ) (old new : AccessValue) → method ≡ id.ca_repository → Keeps IsRsync text old.repository new.repository → old.manifest ≡ new.manifest → old.object ≡ new.object → old.notify ≡ new.notify → AddsEntry (as_entry (method, Some text)) old new
-adds_repository method text old new is k m o n = record {
-  repository = named_adds IsRsync id.ca_repository text (as_entry (method, Some text)) old.repository new.repository is refl k;
-  manifest = other_adds_none IsRsync id.rpki_manifest (as_entry (method, Some text)) old.manifest new.manifest (λ e. repository_manifest (sym is ∙ e)) m;
-  object = other_adds_none IsRsync id.signed_object (as_entry (method, Some text)) old.object new.object (λ e. repository_object (sym is ∙ e)) o;
-  notify = other_adds_none IsHttps id.rpki_notify (as_entry (method, Some text)) old.notify new.notify (λ e. repository_notify (sym is ∙ e)) n;
+pub adds_repository : (method text : List ℕ) (r m o n new : Option (List ℕ)) → method ≡ id.ca_repository → Keeps IsRsync text r new → AddsEntry (as_entry (method, Some text)) (record { repository = r; manifest = m; object = o; notify = n }) (record { repository = new; manifest = m; object = o; notify = n })
+adds_repository method text r m o n new is kept = record {
+  repository = named_adds IsRsync id.ca_repository text (as_entry (method, Some text)) r new is refl kept;
+  manifest = other_adds_none IsRsync id.rpki_manifest (as_entry (method, Some text)) m m (λ e. repository_manifest (sym is ∙ e)) refl;
+  object = other_adds_none IsRsync id.signed_object (as_entry (method, Some text)) o o (λ e. repository_object (sym is ∙ e)) refl;
+  notify = other_adds_none IsHttps id.rpki_notify (as_entry (method, Some text)) n n (λ e. repository_notify (sym is ∙ e)) refl;
 }
 
-pub adds_manifest : (method text : List ℕ) (old new : AccessValue) → method ≡ id.rpki_manifest → Keeps IsRsync text old.manifest new.manifest → old.repository ≡ new.repository → old.object ≡ new.object → old.notify ≡ new.notify → AddsEntry (as_entry (method, Some text)) old new
-adds_manifest method text old new is k r o n = record {
-  repository = other_adds_none IsRsync id.ca_repository (as_entry (method, Some text)) old.repository new.repository (λ e. repository_manifest (sym e ∙ is)) r;
-  manifest = named_adds IsRsync id.rpki_manifest text (as_entry (method, Some text)) old.manifest new.manifest is refl k;
-  object = other_adds_none IsRsync id.signed_object (as_entry (method, Some text)) old.object new.object (λ e. manifest_object (sym is ∙ e)) o;
-  notify = other_adds_none IsHttps id.rpki_notify (as_entry (method, Some text)) old.notify new.notify (λ e. manifest_notify (sym is ∙ e)) n;
+pub adds_manifest : (method text : List ℕ) (r m o n new : Option (List ℕ)) → method ≡ id.rpki_manifest → Keeps IsRsync text m new → AddsEntry (as_entry (method, Some text)) (record { repository = r; manifest = m; object = o; notify = n }) (record { repository = r; manifest = new; object = o; notify = n })
+adds_manifest method text r m o n new is kept = record {
+  repository = other_adds_none IsRsync id.ca_repository (as_entry (method, Some text)) r r (λ e. repository_manifest (sym e ∙ is)) refl;
+  manifest = named_adds IsRsync id.rpki_manifest text (as_entry (method, Some text)) m new is refl kept;
+  object = other_adds_none IsRsync id.signed_object (as_entry (method, Some text)) o o (λ e. manifest_object (sym is ∙ e)) refl;
+  notify = other_adds_none IsHttps id.rpki_notify (as_entry (method, Some text)) n n (λ e. manifest_notify (sym is ∙ e)) refl;
 }
 
-pub adds_object : (method text : List ℕ) (old new : AccessValue) → method ≡ id.signed_object → Keeps IsRsync text old.object new.object → old.repository ≡ new.repository → old.manifest ≡ new.manifest → old.notify ≡ new.notify → AddsEntry (as_entry (method, Some text)) old new
-adds_object method text old new is k r m n = record {
-  repository = other_adds_none IsRsync id.ca_repository (as_entry (method, Some text)) old.repository new.repository (λ e. repository_object (sym e ∙ is)) r;
-  manifest = other_adds_none IsRsync id.rpki_manifest (as_entry (method, Some text)) old.manifest new.manifest (λ e. manifest_object (sym e ∙ is)) m;
-  object = named_adds IsRsync id.signed_object text (as_entry (method, Some text)) old.object new.object is refl k;
-  notify = other_adds_none IsHttps id.rpki_notify (as_entry (method, Some text)) old.notify new.notify (λ e. object_notify (sym is ∙ e)) n;
+pub adds_object : (method text : List ℕ) (r m o n new : Option (List ℕ)) → method ≡ id.signed_object → Keeps IsRsync text o new → AddsEntry (as_entry (method, Some text)) (record { repository = r; manifest = m; object = o; notify = n }) (record { repository = r; manifest = m; object = new; notify = n })
+adds_object method text r m o n new is kept = record {
+  repository = other_adds_none IsRsync id.ca_repository (as_entry (method, Some text)) r r (λ e. repository_object (sym e ∙ is)) refl;
+  manifest = other_adds_none IsRsync id.rpki_manifest (as_entry (method, Some text)) m m (λ e. manifest_object (sym e ∙ is)) refl;
+  object = named_adds IsRsync id.signed_object text (as_entry (method, Some text)) o new is refl kept;
+  notify = other_adds_none IsHttps id.rpki_notify (as_entry (method, Some text)) n n (λ e. object_notify (sym is ∙ e)) refl;
 }
 
-pub adds_notify : (method text : List ℕ) (old new : AccessValue) → method ≡ id.rpki_notify → Keeps IsHttps text old.notify new.notify → old.repository ≡ new.repository → old.manifest ≡ new.manifest → old.object ≡ new.object → AddsEntry (as_entry (method, Some text)) old new
-adds_notify method text old new is k r m o = record {
-  repository = other_adds_none IsRsync id.ca_repository (as_entry (method, Some text)) old.repository new.repository (λ e. repository_notify (sym e ∙ is)) r;
-  manifest = other_adds_none IsRsync id.rpki_manifest (as_entry (method, Some text)) old.manifest new.manifest (λ e. manifest_notify (sym e ∙ is)) m;
-  object = other_adds_none IsRsync id.signed_object (as_entry (method, Some text)) old.object new.object (λ e. object_notify (sym e ∙ is)) o;
-  notify = named_adds IsHttps id.rpki_notify text (as_entry (method, Some text)) old.notify new.notify is refl k;
+pub adds_notify : (method text : List ℕ) (r m o n new : Option (List ℕ)) → method ≡ id.rpki_notify → Keeps IsHttps text n new → AddsEntry (as_entry (method, Some text)) (record { repository = r; manifest = m; object = o; notify = n }) (record { repository = r; manifest = m; object = o; notify = new })
+adds_notify method text r m o n new is kept = record {
+  repository = other_adds_none IsRsync id.ca_repository (as_entry (method, Some text)) r r (λ e. repository_notify (sym e ∙ is)) refl;
+  manifest = other_adds_none IsRsync id.rpki_manifest (as_entry (method, Some text)) m m (λ e. manifest_notify (sym e ∙ is)) refl;
+  object = other_adds_none IsRsync id.signed_object (as_entry (method, Some text)) o o (λ e. object_notify (sym e ∙ is)) refl;
+  notify = named_adds IsHttps id.rpki_notify text (as_entry (method, Some text)) n new is refl kept;
 }
 
 -- One of none of the four methods adds nothing.
-pub adds_nothing : (method text : List ℕ) (old : AccessValue) → method ≢ id.ca_repository → method ≢ id.rpki_manifest → method ≢ id.signed_object → method ≢ id.rpki_notify → AddsEntry (as_entry (method, Some text)) old old
-adds_nothing method text old r m o n = record {
-  repository = other_adds_none IsRsync id.ca_repository (as_entry (method, Some text)) old.repository old.repository r refl;
-  manifest = other_adds_none IsRsync id.rpki_manifest (as_entry (method, Some text)) old.manifest old.manifest m refl;
-  object = other_adds_none IsRsync id.signed_object (as_entry (method, Some text)) old.object old.object o refl;
-  notify = other_adds_none IsHttps id.rpki_notify (as_entry (method, Some text)) old.notify old.notify n refl;
+pub adds_nothing : (method text : List ℕ) (r m o n : Option (List ℕ)) → method ≢ id.ca_repository → method ≢ id.rpki_manifest → method ≢ id.signed_object → method ≢ id.rpki_notify → AddsEntry (as_entry (method, Some text)) (record { repository = r; manifest = m; object = o; notify = n }) (record { repository = r; manifest = m; object = o; notify = n })
+adds_nothing method text r m o n first second third fourth = record {
+  repository = other_adds_none IsRsync id.ca_repository (as_entry (method, Some text)) r r first refl;
+  manifest = other_adds_none IsRsync id.rpki_manifest (as_entry (method, Some text)) m m second refl;
+  object = other_adds_none IsRsync id.signed_object (as_entry (method, Some text)) o o third refl;
+  notify = other_adds_none IsHttps id.rpki_notify (as_entry (method, Some text)) n n fourth refl;
 }
 
 -- One without a name adds nothing.
