@@ -1,5 +1,5 @@
-//! How the tests of an inspection are called. One `match` over constants is proved in a fifth of the time that a message
-//! at each variant takes.
+//! How the tests of an inspection are called: one `match` over constants, since a message at each variant would be a
+//! formatting to prove for each of them.
 
 use crate::forms::InspectionError;
 use std::error::Error;
