@@ -200,11 +200,20 @@ fn take_all<S: Source>(
 {
     let mut found = SubjectAccess::none();
     let mut is_some = false;
-    while let Some(description) = take_opt_description(alloc, cons)? {
+    loop {
+        let next = match take_opt_description(alloc, cons) {
+            Ok(next) => next,
+            Err(error) => {
+                drop(found);
+                return Err(error);
+            }
+        };
+        let Some(description) = next else {
+            return Ok((found, is_some));
+        };
         found.add(description);
         is_some = true;
     }
-    Ok((found, is_some))
 }
 
 // The URIs of all access descriptions of a content, of which there is one at least.
@@ -217,6 +226,7 @@ fn take_some<S: Source>(
 {
     let (found, is_some) = take_all(alloc, cons)?;
     if !is_some {
+        drop(found);
         return Err(cons.content_err(ContentError::from_static("no access description")));
     }
     Ok(found)

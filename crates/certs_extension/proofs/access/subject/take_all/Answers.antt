@@ -1,5 +1,5 @@
 use Rattle.std.proofs.lemmas.Bool.{false≢true}
-use Rattle.std.proofs.Common.{[], refl, sym, subst, false}
+use Rattle.std.proofs.Common.{[], Err, refl, sym, subst, false}
 use Rattle.certs_extension.proofs.of_bcder_content.Forests.{there, absent}
 use Rattle.certs_extension.proofs.of_bcder_content.Gathering.{gather_begin, gather_next, gather_stop, gather_end}
 use Rattle.certs_extension.specs.Access.{no_access}
@@ -10,16 +10,16 @@ use Rattle.certs_extension.proofs.access.subject.take_all.Goals as goal
 none_yet : SaysSoFar [] (no_access, false)
 none_yet = record { none = λ e. refl; some = λ e. absurd (false≢true e); repository = refl; manifest = refl; object = refl; notify = refl }
 
-pub loop-found-init : goal.loop-found-init
-loop-found-init g c = gather_begin (subst (λ a. SaysSoFar [] (a, false)) (sym c.none-found.ensures) none_yet)
+pub loop-next-init : goal.loop-next-init
+loop-next-init g c = gather_begin (subst (λ a. SaysSoFar [] (a, false)) (sym c.none-found.ensures) none_yet)
 
-pub returns-in_err-description : goal.returns-in_err-description
-returns-in_err-description g c = gather_stop _ _ c.loop-found.invariant c.from_residual.ensures c.in_err-description.ensures
+pub returns-in-Err : goal.returns-in-Err
+returns-in-Err g c = gather_stop _ {r = Err c.in-Err.error} _ c.loop-next.invariant (refl, refl) c.in-Err.ensures
 
-pub loop-found-preserved : goal.loop-found-preserved
-loop-found-preserved g c =
-    let i = c.loop-found.invariant in
-    gather_next entry_one i (there _ _ _ c.in-Some.is c.in_ok-description.ensures) (says_more i.xs _ _ _ _ i.says c.add.ensures)
+pub returns-in_default : goal.returns-in_default
+returns-in_default g c = gather_end c.loop-next.invariant entry_tagged (absent _ _ _ c.in_default.is c.in-Ok.ensures) refl
 
-pub returns : goal.returns
-returns g c = gather_end c.loop-found.invariant entry_tagged (absent _ _ _ c.in_default.is c.in_ok-description.ensures) refl
+pub loop-next-preserved : goal.loop-next-preserved
+loop-next-preserved g c =
+    let i = c.loop-next.invariant in
+    gather_next entry_one i (there _ _ _ c.in-Some.is c.in-Ok.ensures) (says_more i.xs _ _ _ _ i.says c.add.ensures)
