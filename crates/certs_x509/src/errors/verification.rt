@@ -5,7 +5,6 @@ ghost use Rattle.std.specs.Prelude.{◌≡◌};
 use certs_extension::forms::{
     OverclaimedAsResources, OverclaimedIpv4Resources, OverclaimedIpv6Resources, ValidityError,
 };
-use std::fmt;
 use thiserror::Error;
 
 /// One of the three kinds of number resources.
@@ -37,64 +36,51 @@ pub enum Overclaimed {
 }
 
 /// Which verification failed first.
-#[derive(Debug, Drop)]
+#[derive(Debug, Drop, Error)]
 pub enum VerificationError {
     /// The moment is before the certificate's validity.
+    #[error("not yet valid")]
     NotYetValid,
     /// The moment is after the certificate's validity.
+    #[error("expired")]
     Expired,
     /// There is no authority key identifier.
+    #[error("missing authority key identifier")]
     AuthorityKeyMissing,
     /// The authority key identifier isn't the issuer's subject key identifier.
+    #[error("authority key identifier of another key")]
     AuthorityKeyMismatch,
     /// There is no URI of the issuer.
+    #[error("missing URI of the issuer")]
     AiaMissing,
     /// The signature isn't one of the key over the message.
+    #[error("bad signature")]
     BadSignature,
     /// Numbers of this kind are inherited, where there is nothing to inherit from.
+    #[error("inherited {0}")]
     Inherited(ClaimedKind),
     /// Numbers are listed that the issuer doesn't hold.
+    #[error("{0}")]
     Overclaim(Overclaimed),
     /// The digest that is signed isn't the content's.
+    #[error("message digest of another content")]
     MessageDigest,
     /// The signing time is after the certificate's validity.
+    #[error("signed after the certificate expired")]
     SigningTime,
     /// The digest that a manifest lists isn't the object's.
+    #[error("hash of another object")]
     HashMismatch,
     /// What an object attests isn't within its certificate's resources.
+    #[error("uncovered resources")]
     Uncovered,
     /// The caller's test of the revocation list refused.
+    #[error("refused by the caller")]
     Refused,
     /// No memory is left.
+    #[error("out of memory")]
     Memory,
 }
-
-impl fmt::Display for VerificationError {
-    fn fmt<W: fmt::Write>(&self, f: &mut fmt::Formatter<W>) -> fmt::Result {
-        match self {
-            VerificationError::NotYetValid => f.write_str("not yet valid"),
-            VerificationError::Expired => f.write_str("expired"),
-            VerificationError::AuthorityKeyMissing => {
-                f.write_str("missing authority key identifier")
-            }
-            VerificationError::AuthorityKeyMismatch => {
-                f.write_str("authority key identifier of another key")
-            }
-            VerificationError::AiaMissing => f.write_str("missing URI of the issuer"),
-            VerificationError::BadSignature => f.write_str("bad signature"),
-            VerificationError::Inherited(kind) => write!(f, "inherited {kind}"),
-            VerificationError::Overclaim(numbers) => write!(f, "{numbers}"),
-            VerificationError::MessageDigest => f.write_str("message digest of another content"),
-            VerificationError::SigningTime => f.write_str("signed after the certificate expired"),
-            VerificationError::HashMismatch => f.write_str("hash of another object"),
-            VerificationError::Uncovered => f.write_str("uncovered resources"),
-            VerificationError::Refused => f.write_str("refused by the caller"),
-            VerificationError::Memory => f.write_str("out of memory"),
-        }
-    }
-}
-
-impl std::error::Error for VerificationError {}
 
 impl From<ValidityError> for VerificationError {
     ghost use Rattle.certs_x509.specs.Causes.{of_validity};
