@@ -9,8 +9,10 @@ pub mod Lists
 pub mod Names
 pub mod Stepping
 mod Joined
+mod Last
 mod Beginning
 mod NoMemory
+mod Passed
 pub mod Ones
 pub mod Spelled
 pub mod Whole

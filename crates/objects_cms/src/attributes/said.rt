@@ -65,8 +65,7 @@ fn take_only<S: Source>(
     ensures { ReadsFields alone (λ m. AreOneValue m kind)
         (here S.rest cons.old) result (here S.rest cons.new) }
 {
-    let said = take_value(alloc, cons, kind)?;
-    Ok(said)
+    take_value(alloc, cons, kind)
 }
 
 // The values of an attribute of that kind: a SET OF one.

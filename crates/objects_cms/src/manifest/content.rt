@@ -53,8 +53,7 @@ type Fields = (Option<()>, Serial, Time, Time, FileList);
 fn take_number<S: Source>(cons: &mut Constructed<S>) -> Result<(), DecodeError<S::Error>>
     ensures { ReadsFields alone IsNumber (here S.rest cons.old) result (here S.rest cons.new) }
 {
-    let number = cons.skip_u8_if(VERSION)?;
-    Ok(number)
+    cons.skip_u8_if(VERSION)
 }
 
 // The version, if it is written out: `[0] EXPLICIT INTEGER (0)`.

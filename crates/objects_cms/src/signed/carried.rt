@@ -62,8 +62,7 @@ fn take_signer<S: Source>(
     ensures octets { IfOk result (λ s. TookOctets one_signer AreSignerTexts
         (here S.rest cons.old) s (here S.rest cons.new)) }
 {
-    let signer = SignerInfo::take_from(alloc, cons)?;
-    Ok(signer)
+    SignerInfo::take_from(alloc, cons)
 }
 
 // The signers: a SET of just one (RFC 6488 2.1.6).

@@ -23,8 +23,7 @@ fn take_string<S: Source>(
 ) -> Result<OctetString, DecodeError<S::Error>>
     ensures { ReadsFields alone IsString (here S.rest cons.old) result (here S.rest cons.new) }
 {
-    let octets = OctetString::take_from(alloc, cons)?;
-    Ok(octets)
+    OctetString::take_from(alloc, cons)
 }
 
 // The content: `[0] EXPLICIT OCTET STRING` (RFC 5652 5.2).

@@ -79,8 +79,7 @@ fn take_only<S: Source>(
         (here S.rest cons.old) p (here S.rest cons.new)) }
     ensures memory { IfErr result (λ e. OnMemory e (BeginsData (here S.rest cons.old))) }
 {
-    let parts = take_signed_data(alloc, cons)?;
-    Ok(parts)
+    take_signed_data(alloc, cons)
 }
 
 // `[0] EXPLICIT SignedData` (RFC 5652 3).
@@ -120,8 +119,7 @@ fn take_info<S: Source>(
     ensures memory { IfErr result (λ e. OnMemory e (BeginsInfo (here S.rest cons.old))) }
 {
     let oid = SIGNED_DATA.skip_if(cons)?;
-    let parts = take_explicit(alloc, cons)?;
-    Ok(parts)
+    take_explicit(alloc, cons)
 }
 
 // `ContentInfo` (RFC 5652 3): by values in each mode, and by the very octets that stood there.

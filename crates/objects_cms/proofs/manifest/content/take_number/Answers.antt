@@ -1,9 +1,8 @@
 use Rattle.std.proofs.Common.{refl}
-use Rattle.objects_cms.proofs.of_bcder_content.InMode.{begin, next, stop, done}
+use Rattle.objects_payload.specs.certs_extension.CertText.{IsVersion as IsInteger}
+use Rattle.objects_cms.specs.Said.{alone}
+use Rattle.objects_cms.proofs.Last.{only}
 use Rattle.objects_cms.proofs.manifest.content.take_number.Goals as goal
 
-pub returns-in_err-number : goal.returns-in_err-number
-returns-in_err-number g c = stop _ begin c.from_residual.ensures c.in_err-number.ensures.reads
-
 pub returns : goal.returns
-returns g c = done (next begin c.in_ok-number.ensures.reads) refl
+returns g c = only (λ m. IsInteger 0) (λ x. x) alone c.skip_u8_if.result (λ x. refl) c.skip_u8_if.ensures.reads

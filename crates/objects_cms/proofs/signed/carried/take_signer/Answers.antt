@@ -1,15 +1,12 @@
 use Rattle.std.proofs.Common.{refl}
-use Rattle.certs_cert.proofs.Joined.{as_read, ended, join, read_as}
-use Rattle.objects_cms.proofs.of_bcder_content.InMode.{begin, done, next, stop}
+use Rattle.objects_cms.specs.objects_payload.ObjectText.{SpellsSigner}
+use Rattle.objects_cms.specs.Frame.{one_signer}
+use Rattle.objects_cms.specs.Signer.{IsSigner, signer_fields}
+use Rattle.objects_cms.proofs.Last.{only, only_octets}
 use Rattle.objects_cms.proofs.signed.carried.take_signer.Goals as goal
 
-pub returns-in_err-signer-clause-reads : goal.returns-in_err-signer-clause-reads
-returns-in_err-signer-clause-reads g c = stop _ begin c.from_residual.ensures c.in_err-signer.ensures.reads
-
 pub returns-clause-reads : goal.returns-clause-reads
-returns-clause-reads g c = done (next begin c.in_ok-signer.ensures.reads) refl
+returns-clause-reads g c = only IsSigner signer_fields one_signer c.take_from.result (λ x. refl) c.take_from.ensures.reads
 
 pub returns-clause-octets : goal.returns-clause-octets
-returns-clause-octets g c =
-    let last = read_as c.in_ok-signer.ensures.octets in
-    as_read refl (join last (ended last.goes.behind))
+returns-clause-octets g c = only_octets SpellsSigner signer_fields one_signer c.take_from.result (λ x. refl) c.take_from.ensures.octets

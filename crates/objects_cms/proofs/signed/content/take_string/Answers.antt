@@ -1,9 +1,8 @@
 use Rattle.std.proofs.Common.{refl}
-use Rattle.objects_cms.proofs.of_bcder_content.InMode.{begin, done, next, stop}
+use Rattle.objects_cms.specs.bcder_tree.Strings.{IsOctetString}
+use Rattle.objects_cms.specs.Said.{alone}
+use Rattle.objects_cms.proofs.Last.{only}
 use Rattle.objects_cms.proofs.signed.content.take_string.Goals as goal
 
-pub returns-in_err-octets : goal.returns-in_err-octets
-returns-in_err-octets g c = stop _ begin c.from_residual.ensures c.in_err-octets.ensures.reads
-
 pub returns : goal.returns
-returns g c = done (next begin c.in_ok-octets.ensures.reads) refl
+returns g c = only IsOctetString (λ x. x) alone c.take_from.result (λ x. refl) c.take_from.ensures.reads

@@ -1,19 +1,11 @@
 use Rattle.std.proofs.Common.{refl}
-use Rattle.certs_cert.proofs.Joined.{as_read, ended, join, read_as}
-use Rattle.objects_cms.proofs.of_bcder_content.InMode.{begin, done, next, stop}
-use Rattle.objects_cms.proofs.Beginning.{wants_on}
+use Rattle.objects_cms.specs.objects_payload.ObjectText.{SpellsSignedData}
+use Rattle.objects_cms.specs.Frame.{IsSigned, one_signed, signed_fields}
+use Rattle.objects_cms.proofs.Last.{only, only_octets}
 use Rattle.objects_cms.proofs.signed.frame.take_only.Goals as goal
 
-pub returns-in_err-parts-clause-reads : goal.returns-in_err-parts-clause-reads
-returns-in_err-parts-clause-reads g c = stop _ begin c.from_residual.ensures c.in_err-parts.ensures.reads
-
 pub returns-clause-reads : goal.returns-clause-reads
-returns-clause-reads g c = done (next begin c.in_ok-parts.ensures.reads) refl
+returns-clause-reads g c = only IsSigned signed_fields one_signed c.take_signed_data.result (λ x. refl) c.take_signed_data.ensures.reads
 
 pub returns-clause-octets : goal.returns-clause-octets
-returns-clause-octets g c =
-    let last = read_as c.in_ok-parts.ensures.octets in
-    as_read refl (join last (ended last.goes.behind))
-
-pub returns-in_err-parts-clause-memory : goal.returns-in_err-parts-clause-memory
-returns-in_err-parts-clause-memory g c = wants_on _ _ c.from_residual.ensures (λ b. b) c.in_err-parts.ensures.memory
+returns-clause-octets g c = only_octets SpellsSignedData signed_fields one_signed c.take_signed_data.result (λ x. refl) c.take_signed_data.ensures.octets
