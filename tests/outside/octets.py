@@ -78,10 +78,15 @@ READERS = {
     },
 }
 
+# The kinds of signed objects whose type is `Signed` of a content; their `decode` stands there.
+SIGNED = ("Manifest", "Roa", "Aspa", "Rsc")
+
 
 def without_row():
     """The public calls `decode` of the crates of certificates and objects below the programs that no row names."""
     named = {call.partition(",")[0] for rows in READERS.values() for call in rows.values()}
+    if named >= {f"{kind}::decode" for kind in SIGNED}:
+        named.add("Signed::decode")
     for crate in sorted(set().union(*map(libraries().get, READERS))):
         if crate.startswith(("certs", "objects")) and "answers" not in libraries()[crate]:
             for path in sorted((CRATES / crate / "src").rglob("*.rt")):
@@ -97,8 +102,9 @@ def stored(name):
         return [(question[:-1].split("\t"), answer[:-1]) for question, answer in zip(asked, answered, strict=True)]
 
 
-# Readers of what may be missing: no octets at all are lawful there.
+# Readers of what may be missing: no octets at all are lawful there, and so is a value of another tag, which is left unread.
 OPTIONAL = ("listed taken",)
+SEQUENCE = 0x30
 
 
 def is_octets(word):
@@ -134,7 +140,9 @@ def end_of(octets):
 
 
 def is_whole(reader, octets):
-    """Whether the octets are one value: where others follow it, a front of all may have it, too."""
+    """Whether the octets are one value that is read: where others follow it, a front of all may have it, too."""
+    if reader in OPTIONAL and octets[0] != SEQUENCE:
+        return False
     return reader == LOCATORS or end_of(octets) == len(octets)
 
 
