@@ -23,7 +23,7 @@ def with_those_below(names, needs):
 
 
 def link(there, here):
-    """The same file here, by a link where the disk is the same one."""
+    """Puts the file here, too, by a link where the disk is one."""
     if os.path.exists(here):
         os.remove(here)
     try:

@@ -42,5 +42,5 @@ def refusal_rows(found):
 
 
 def refusals_object(found):
-    """The same as a JSON object without spaces."""
+    """All that is refused as a JSON object without spaces."""
     return rpki_reason_texts.refusals_object(reasons_of(found))

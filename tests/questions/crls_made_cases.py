@@ -87,7 +87,7 @@ def some_lists():
 
 
 def of_both(q, answer, kind, words):
-    """The same is asked of a list over the octets of its entries, and over a vector of entries."""
+    """Each question is asked of a list over the octets of its entries, and of one over a vector of entries."""
     q.ask(answer, "made", kind, *words)
     q.ask(answer, "made", "gathered", kind, *words)
 

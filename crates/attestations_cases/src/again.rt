@@ -65,7 +65,7 @@ fn attestation(alloc: Global, answer: &mut Answer, rta: &Rta) {
     length(answer, rta.encode_ref(alloc));
 }
 
-// The same of a content.
+// What is written of a content, and how many octets these are.
 fn content(alloc: Global, answer: &mut Answer, content: &ResourceTaggedAttestation) {
     written(answer, content.to_captured(alloc));
     length(answer, content.encode_ref());

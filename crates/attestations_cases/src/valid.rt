@@ -96,7 +96,8 @@ pub fn at(alloc: Global, answer: &mut Answer, words: &[&str]) -> Result<()> {
     told(alloc, answer, false, words)
 }
 
-/// The same by a clock that stands at the moment.
+/// The first test that an attestation fails by a clock that stands at a moment; or `valid`, and all that is said where a moment
+/// is given.
 pub fn by_clock(alloc: Global, answer: &mut Answer, words: &[&str]) -> Result<()> {
     told(alloc, answer, true, words)
 }

@@ -39,7 +39,7 @@ pub inspects_by : (d : Digests) (strict : Bool) (role : Role) (c : CertValue) (r
 inspects_by d strict role c (Ok x) passed refused = passed.0 refl
 inspects_by d strict role c (Err t) passed refused = (refused t).0 refl
 
--- The same of the certificate that an object has.
+-- What an inspection answers of the certificate that an object has, by when it is `Ok` and which test it refuses with.
 pub inspects_own : (d : Digests) (strict : Bool) (role : Role) (own c : CertValue) (r : Result (Unit {0}) InspectionError)
     → c ≡ own → (IsOk r ↔ Profile d strict role c) → ((t : InspectionError) → (r ≡ Err t) ↔ FailsFirst d strict role c t) → Inspects d strict role own r
 inspects_own d strict role own c r same passed refused = subst (λ (x : CertValue). Inspects d strict role x r) same (inspects_by d strict role c r passed refused)
