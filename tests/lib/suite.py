@@ -78,6 +78,8 @@ TESTS = (
     Test("hops", "tools/hops.py", 60),
     # Definitions and clauses that are wider than 100 columns are listed.
     Test("widths", "tools/widths.py", 300),
+    # Functions with more than five parameters are listed, with the reason.
+    Test("params", "tools/params.py", 300),
     # Calls that can lack memory are asked with their growths refused.
     Test("growing", "tools/growing.py", 300),
     # Errors of which no clause says anything have a reason.

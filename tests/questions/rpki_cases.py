@@ -107,7 +107,7 @@ def streams(q):
 
 def texts(q):
     run = "read fault; not a bundle; write fault; out of memory;"
-    q.ask(f"{run} read fault; not a bundle; write fault; out of memory; not a bundle; out of memory; tal anchor point object loop depth", "texts")
+    q.ask(f"{run} not a bundle; out of memory; tal anchor point object loop depth", "texts")
     q.ask("check", "command", "p", "check")
     q.ask("bundle x", "command", "p", "bundle", "x")
     q.ask("bundle ", "command", "p", "bundle", "")

@@ -1,11 +1,11 @@
 //! What is written of attestations that were read.
 
 use crate::given::rta_of;
-use crate::told;
 use answers::{Answer, word_at};
 use anyhow::Result;
 use bcder::encode::{EncodeError, Values};
 use bcder::{Captured, Mode};
+use certs_roles::told::unwritten;
 use objects_cms::signed::SignerInfo;
 use objects_rta::{ResourceTaggedAttestation, Rta};
 use objects_rta_written::{EncodeAttestation, EncodeMulti, EncodeSigner};
@@ -18,7 +18,7 @@ fn written(answer: &mut Answer, octets: Result<Captured, EncodeError>) {
             answer.octets(octets.as_slice());
             drop(octets);
         }
-        Err(error) => told::unwritten(answer, error),
+        Err(error) => unwritten(answer, error),
     }
 }
 
@@ -26,7 +26,7 @@ fn written(answer: &mut Answer, octets: Result<Captured, EncodeError>) {
 fn counted(answer: &mut Answer, length: Result<usize, EncodeError>) {
     match length {
         Ok(length) => answer.say(&length),
-        Err(error) => told::unwritten(answer, error),
+        Err(error) => unwritten(answer, error),
     }
 }
 
@@ -37,7 +37,7 @@ fn length<V: Values + Drop>(answer: &mut Answer, values: Result<V, EncodeError>)
             counted(answer, values.encoded_len(Mode::Der));
             drop(values);
         }
-        Err(error) => told::unwritten(answer, error),
+        Err(error) => unwritten(answer, error),
     }
 }
 
@@ -48,7 +48,7 @@ fn signer(alloc: Global, answer: &mut Answer, signer: &SignerInfo) {
             written(answer, values.to_captured(alloc, Mode::Der));
             drop(values);
         }
-        Err(error) => told::unwritten(answer, error),
+        Err(error) => unwritten(answer, error),
     }
 }
 

@@ -7,6 +7,7 @@ use anyhow::{Result, anyhow};
 use bcder::OctetString;
 use bytes::Bytes;
 use certs_key::{DigestAlgorithm, KeyIdentifier};
+use certs_roles::told::unwritten;
 use objects_rta::ResourceTaggedAttestation;
 use objects_rta_written::{AttestationBuilder, AttestationError, EncodeAttestation};
 use resources_as::AsBlock;
@@ -121,7 +122,7 @@ fn written(alloc: Global, answer: &mut Answer, content: &ResourceTaggedAttestati
             again(alloc, answer, octets.as_slice());
             drop(octets);
         }
-        Err(error) => told::unwritten(answer, error),
+        Err(error) => unwritten(answer, error),
     }
 }
 

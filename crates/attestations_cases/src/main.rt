@@ -15,7 +15,6 @@ mod signer;
 mod supplied;
 mod told;
 mod valid;
-mod verifier;
 
 use answers::{Answer, Questions, answer_lines, unknown};
 use anyhow::Result;

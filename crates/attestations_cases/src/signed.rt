@@ -7,6 +7,7 @@ use crate::told;
 use answers::{Answer, unknown, word_at};
 use anyhow::{Result, anyhow};
 use bcder::encode::EncodeError;
+use certs_roles::told::unwritten;
 use certs_x509::Time;
 use objects_rta::{Crl, ResourceTaggedAttestation, Rta};
 use objects_rta_written::{AttestationBuilder, AttestationError, EncodeMulti, RtaBuilder};
@@ -154,7 +155,7 @@ fn written(alloc: Global, answer: &mut Answer, rta: &Rta) {
             again(alloc, answer, octets.as_slice());
             drop(octets);
         }
-        Err(error) => told::unwritten(answer, error),
+        Err(error) => unwritten(answer, error),
     }
 }
 

@@ -5,10 +5,10 @@ ghost use Rattle.certs_key.specs.bcder_tree.declared.mode.Mode.TheVariants.{Der}
 ghost use Rattle.certs_key.specs.bcder_octets.BitContents.{IsPadded};
 ghost use Rattle.certs_key.specs.declared.signer.SigningError.TheVariants.{TooLong};
 
-use crate::verifier::digest_of;
 use bcder::decode::DecodeError;
 use bytes::Bytes;
 use certs_key::{PublicKey, Signature, SignatureAlgorithm, Signer, SigningError};
+use certs_roles::stand_in::digest_of;
 use std::alloc::Global;
 use std::convert::Infallible;
 

@@ -1,17 +1,15 @@
 //! What anchors the paths of a valid attestation, and whether just what they cover is stated then.
 
 use crate::given::{cert_of, no_memory, octets_of};
-use crate::verifier::Stub;
 use answers::Answer;
 use anyhow::{Error, Result, anyhow};
-use certs_verify::{
-    Cert, Refused, ResourceCert, TalInfo, Validate, ValidationError, VerificationError,
-};
+use certs_roles::stand_in::StandIn;
+use certs_roles::terms::locator;
+use certs_verify::{Cert, Refused, ResourceCert, Validate, ValidationError, VerificationError};
 use certs_x509::Time;
 use objects_rta_anchors::{Tal, Validation};
 use rpki_digests::Fips;
-use std::alloc::{AllocError, Global};
-use std::rc::Rc;
+use std::alloc::Global;
 
 // What is lacking where a certificate is refused; or that memory ran out.
 fn cause_of(error: &ValidationError, lacking: &str) -> Error {
@@ -36,17 +34,12 @@ fn accepted(
     }
 }
 
-// What the locator of each anchor is called.
-fn locator(alloc: Global) -> Result<Rc<TalInfo>, AllocError> {
-    TalInfo::from_name(String::from_str(alloc, "t")?).into_rc(alloc)
-}
-
 // The certificate as a trust anchor, with what it holds.
 fn anchored(alloc: Global, cert: Cert, now: Time) -> Result<ResourceCert> {
-    let mut stub = Stub { asked: 0 };
+    let mut verifier = StandIn { asked: 0 };
     match locator(alloc) {
         Ok(tal) => accepted(
-            cert.validate_ta_at(tal, true, now, &Fips, &mut stub),
+            cert.validate_ta_at(tal, true, now, &Fips, &mut verifier),
             "no anchor",
         ),
         Err(_) => {
@@ -69,9 +62,9 @@ fn authority_below(
     now: Time,
 ) -> Result<ResourceCert> {
     let cert = cert_of(alloc, digits)?;
-    let mut stub = Stub { asked: 0 };
+    let mut verifier = StandIn { asked: 0 };
     accepted(
-        cert.validate_ca_at(alloc, issuer, true, now, &Fips, &mut stub),
+        cert.validate_ca_at(alloc, issuer, true, now, &Fips, &mut verifier),
         "no authority",
     )
 }
@@ -95,8 +88,8 @@ fn holder_of(alloc: Global, digits: &str, now: Time) -> Result<ResourceCert> {
 // Whether the authority of the octets anchors a path.
 fn supply_ca(alloc: Global, validation: &mut Validation, digits: &str, now: Time) -> Result<bool> {
     let holder = holder_of(alloc, digits, now)?;
-    let mut stub = Stub { asked: 0 };
-    let said = validation.supply_ca(&holder, &mut stub);
+    let mut verifier = StandIn { asked: 0 };
+    let said = validation.supply_ca(&holder, &mut verifier);
     drop(holder);
     match said {
         Ok(found) => Ok(found),

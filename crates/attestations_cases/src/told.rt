@@ -2,12 +2,11 @@
 
 use answers::Answer;
 use bcder::OctetString;
-use bcder::encode::EncodeError;
 use certs_key::KeyIdentifier;
+use certs_roles::told::{addresses, numbers};
 use objects_cms::signed::SignerInfo;
 use objects_rta::{Cert, Crl, MultiSignedObject, ResourceTaggedAttestation, Rta};
-use resources_as::{AsResources, InheritedAsResources};
-use resources_ip::{AddressFamily, InheritedIpResources, IpBlocks, IpBlocksForFamily, IpResources};
+use resources_ip::AddressFamily;
 use std::alloc::Global;
 
 // The octets of a string.
@@ -15,47 +14,6 @@ fn string(alloc: Global, answer: &mut Answer, string: &OctetString) {
     match string.to_bytes(alloc) {
         Ok(octets) => answer.octets(octets.as_slice()),
         Err(_) => answer.word("memory"),
-    }
-}
-
-// What is stated of AS numbers: a set in brackets, or `-`.
-fn numbers(answer: &mut Answer, resources: &AsResources) {
-    if resources.is_missing() {
-        answer.word("-");
-        return;
-    }
-    match resources.to_blocks() {
-        Ok(set) => {
-            answer.say(&format_args!("[{set}]"));
-            drop(set);
-        }
-        Err(InheritedAsResources::Inherited) => answer.word("inherit"),
-        Err(InheritedAsResources::Memory) => answer.word("memory"),
-    }
-}
-
-// A set of one family, in brackets.
-fn set_of(answer: &mut Answer, family: AddressFamily, set: &IpBlocks) {
-    let shown = match family {
-        AddressFamily::Ipv4 => IpBlocksForFamily::v4(set),
-        AddressFamily::Ipv6 => IpBlocksForFamily::v6(set),
-    };
-    answer.say(&format_args!("[{shown}]"));
-}
-
-// What is stated of the addresses of a family: a set in brackets, or `-`.
-fn addresses(answer: &mut Answer, family: AddressFamily, resources: &IpResources) {
-    if resources.is_missing() {
-        answer.word("-");
-        return;
-    }
-    match resources.to_blocks() {
-        Ok(set) => {
-            set_of(answer, family, &set);
-            drop(set);
-        }
-        Err(InheritedIpResources::Inherited) => answer.word("inherit"),
-        Err(InheritedIpResources::Memory) => answer.word("memory"),
     }
 }
 
@@ -126,14 +84,4 @@ pub fn carried(alloc: Global, answer: &mut Answer, signed: &MultiSignedObject) {
 pub fn attestation(alloc: Global, answer: &mut Answer, rta: &Rta) {
     content(alloc, answer, rta.content());
     carried(alloc, answer, rta.signed());
-}
-
-/// Why something isn't written.
-pub fn unwritten(answer: &mut Answer, error: EncodeError) {
-    match error {
-        EncodeError::CerUnsupported => answer.word("unsupported"),
-        EncodeError::TooLong => answer.word("long"),
-        EncodeError::Write => answer.word("write"),
-        EncodeError::Memory => answer.word("memory"),
-    }
 }

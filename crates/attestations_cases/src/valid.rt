@@ -2,9 +2,10 @@
 
 use crate::given::{moment_of, rta_of};
 use crate::supplied;
-use crate::verifier::{Standing, Stub};
 use answers::{Answer, unknown};
 use anyhow::Result;
+use certs_roles::stand_in::StandIn;
+use certs_roles::terms::Standing;
 use certs_x509::Time;
 use objects_rta::Rta;
 use objects_rta_anchors::{PathPlaces, Paths, RtaError, Validation};
@@ -41,11 +42,11 @@ fn validated(
     now: Time,
     is_by_clock: bool,
 ) -> Result<Validation, RtaError> {
-    let mut stub = Stub { asked: 0 };
+    let mut verifier = StandIn { asked: 0 };
     if is_by_clock {
-        Validation::new(alloc, rta, strict, &Standing(now), &Fips, &mut stub)
+        Validation::new(alloc, rta, strict, &Standing(now), &Fips, &mut verifier)
     } else {
-        Validation::new_at(alloc, rta, strict, now, &Fips, &mut stub)
+        Validation::new_at(alloc, rta, strict, now, &Fips, &mut verifier)
     }
 }
 

@@ -38,7 +38,11 @@ boolean_at tag = plain tag (record {
   again = λ m x. x;
   writes = λ x m content. IsBoolean Der content x;
   one_content = λ x m. one_boolean x;
-  is_read = λ x m content l v. record { octet = v.octet; whole = v.whole; truth = der_truth m v.octet x v.truth };
+  is_read = λ x m content l v. record {
+    octet = v.octet;
+    whole = v.whole;
+    truth = der_truth m v.octet x v.truth;
+  };
   one_meaning = boolean_one;
 })
 
@@ -84,7 +88,9 @@ natural_at tag = plain tag (record {
   writes = λ x m content. IsNatural content x;
   one_content = λ x m. one_integer (pos x);
   is_read = λ x m content l v. v;
-  one_meaning = λ m. record { one = λ content x y p q. ap unsigned_abs (one_number content (pos x) (pos y) p q) };
+  one_meaning = λ m. record {
+    one = λ content x y p q. ap unsigned_abs (one_number content (pos x) (pos y) p q);
+  };
 })
 
 abbrev pub oid_at : TagValue → Form (List ℕ)
@@ -121,7 +127,8 @@ bits_at tag = plain tag (record {
   one_meaning = λ m. bit_string_one;
 })
 
-pub string_tagged : (m : Mode) (tag : TagValue) (t : Tree) (x : List ℕ) → IsString m tag t x → tag_of t ≡ tag
+pub string_tagged : (m : Mode) (tag : TagValue) (t : Tree) (x : List ℕ) → IsString m tag t x
+    → tag_of t ≡ tag
 string_tagged Ber tag (primitive u v) x p = p.0
 string_tagged Ber tag (constructed u ts) x p = p.0
 string_tagged Cer tag (primitive u v) x p = p.0

@@ -16,7 +16,9 @@ pub record IsComponentText (text : List ℕ) (n : ℕ) : Type 0 where
 abbrev pub IsDotted : List ℕ → List ℕ → Type 0
 IsDotted text [] = ⊥
 IsDotted text (n ∷ []) = IsComponentText text n
-IsDotted text (n ∷ m ∷ ns) = (first : List ℕ) × (rest : List ℕ) × (text ≡ first ++ 46 ∷ rest) × IsComponentText first n × IsDotted rest (m ∷ ns)
+IsDotted text (n ∷ m ∷ ns) =
+    (first : List ℕ) × (rest : List ℕ) × (text ≡ first ++ 46 ∷ rest) × IsComponentText first n
+    × IsDotted rest (m ∷ ns)
 
 -- Two or more components; the first is at most 2, and the second below 40 where the first is 0 or 1.
 abbrev pub MayBegin : List ℕ → Type 0
@@ -59,7 +61,8 @@ abbrev pub NumbersRefused : ParseOidError → List ℕ → Type 0
 NumbersRefused TooFew ns = length ns < 2
 NumbersRefused Component ns = ⊥
 NumbersRefused First ns = (x : ℕ) × (y : ℕ) × (ms : List ℕ) × (ns ≡ x ∷ y ∷ ms) × (2 < x)
-NumbersRefused Second ns = (x : ℕ) × (y : ℕ) × (ms : List ℕ) × (ns ≡ x ∷ y ∷ ms) × (x < 2) × (40 ≤ y)
+NumbersRefused Second ns =
+    (x : ℕ) × (y : ℕ) × (ms : List ℕ) × (ns ≡ x ∷ y ∷ ms) × (x < 2) × (40 ≤ y)
 NumbersRefused Memory ns = Unit {0}
 
 -- The first test that a text fails. It is of numbers with dots between them; they are two at least; the first is at most
@@ -68,7 +71,8 @@ abbrev pub WhyRefused : ParseOidError → List ℕ → Type 0
 WhyRefused TooFew text = (n : ℕ) × IsDotted text (n ∷ [])
 WhyRefused Component text = (ns : List ℕ) → IsDotted text ns → ⊥
 WhyRefused First text = (x : ℕ) × (y : ℕ) × (ns : List ℕ) × IsDotted text (x ∷ y ∷ ns) × (2 < x)
-WhyRefused Second text = (x : ℕ) × (y : ℕ) × (ns : List ℕ) × IsDotted text (x ∷ y ∷ ns) × (x < 2) × (40 ≤ y)
+WhyRefused Second text =
+    (x : ℕ) × (y : ℕ) × (ns : List ℕ) × IsDotted text (x ∷ y ∷ ns) × (x < 2) × (40 ≤ y)
 WhyRefused Memory text = Unit {0}
 
 -- No dot stands in the text.

@@ -32,19 +32,23 @@ utf8_one = record {
 }
 
 -- Where each character is one octet, these are the text.
-pub alone_told : {Has : ℕ → Type 0} (octets told : List ℕ) → Tells Has alone octets told → octets ≡ told
+pub alone_told : {Has : ℕ → Type 0} (octets told : List ℕ) → Tells Has alone octets told
+    → octets ≡ told
 alone_told octets told t = sym t.spelled ∙ flat_map_single (λ (x : ℕ). x) told ∙ map-id told
 
 pub all_are_scalars : (cs : List ℕ) → All IsUnicode cs → all_scalars cs ≡ true
 all_are_scalars [] h = refl
-all_are_scalars (c ∷ cs) h = and_from (scalar c) (all_scalars cs) (All-head IsUnicode c cs h) (all_are_scalars cs (All-tail IsUnicode c cs h))
+all_are_scalars (c ∷ cs) h = and_from (scalar c) (all_scalars cs) (All-head IsUnicode c cs h)
+    (all_are_scalars cs (All-tail IsUnicode c cs h))
 
 pub joined : (cs : List ℕ) → flat_map encode_utf8 cs ≡ encode_utf8_all cs
 joined [] = refl
 joined (c ∷ cs) = ap (λ (l : List ℕ). encode_utf8 c ++ l) (joined cs)
 
-pub utf8_told : (octets told : List ℕ) → Tells IsUnicode encode_utf8 octets told → chars octets ≡ told
-utf8_told octets told t = ap chars (sym t.spelled ∙ joined told) ∙ chars-encodes told (all_are_scalars told t.has)
+pub utf8_told : (octets told : List ℕ) → Tells IsUnicode encode_utf8 octets told
+    → chars octets ≡ told
+utf8_told octets told t =
+    ap chars (sym t.spelled ∙ joined told) ∙ chars-encodes told (all_are_scalars told t.has)
 
 -- The sets of one octet a character are of ASCII.
 pub numeric_ascii : (c : ℕ) → IsNumeric c → c < 128

@@ -32,4 +32,5 @@ pub record IsShortest (octets : List ℕ) (n : ℕ) : Type 0 where
 -- Octets of Q for each of the numbers, one after the other.
 abbrev pub InTurn : (List ℕ → ℕ → Type 0) → List ℕ → List ℕ → Type 0
 InTurn Q octets [] = octets ≡ []
-InTurn Q octets (n ∷ ns) = (first : List ℕ) × (rest : List ℕ) × (octets ≡ first ++ rest) × Q first n × InTurn Q rest ns
+InTurn Q octets (n ∷ ns) =
+    (first : List ℕ) × (rest : List ℕ) × (octets ≡ first ++ rest) × Q first n × InTurn Q rest ns

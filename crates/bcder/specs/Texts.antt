@@ -13,7 +13,8 @@ pub record IsText (Has : ℕ → Type 0) (spell : ℕ → List ℕ) (octets : Li
   pub tells : Tells Has spell octets chars
 
 -- A character of the set stands in front of the octets, and these come after it.
-pub record Starts (Has : ℕ → Type 0) (spell : ℕ → List ℕ) (octets : List ℕ) (char : ℕ) (behind : List ℕ) : Type 0 where
+pub record Starts (Has : ℕ → Type 0) (spell : ℕ → List ℕ) (octets : List ℕ) (char : ℕ)
+    (behind : List ℕ) : Type 0 where
   pub has : Has char
   pub spelled : octets ≡ spell char ++ behind
 
@@ -24,5 +25,7 @@ pub record NoStart (Has : ℕ → Type 0) (spell : ℕ → List ℕ) (octets : L
 
 -- Octets have one character in front at most.
 pub record HasOneStart (Has : ℕ → Type 0) (spell : ℕ → List ℕ) : Type 0 where
-  pub char : (octets : List ℕ) (a b : ℕ) (x y : List ℕ) → Starts Has spell octets a x → Starts Has spell octets b y → a ≡ b
-  pub behind : (octets : List ℕ) (a b : ℕ) (x y : List ℕ) → Starts Has spell octets a x → Starts Has spell octets b y → x ≡ y
+  pub char : (octets : List ℕ) (a b : ℕ) (x y : List ℕ) → Starts Has spell octets a x
+      → Starts Has spell octets b y → a ≡ b
+  pub behind : (octets : List ℕ) (a b : ℕ) (x y : List ℕ) → Starts Has spell octets a x
+      → Starts Has spell octets b y → x ≡ y

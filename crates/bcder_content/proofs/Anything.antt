@@ -14,8 +14,8 @@ use Rattle.bcder_primitive.specs.Plain.{LacksOctets}
 use Rattle.bcder_content.specs.Openings.{ending_of}
 use Rattle.bcder_content.specs.Exact.{Gives, Lacks, ReadsAs, ReadsOptAs, ReadsNextAs, LacksAll}
 use Rattle.bcder_content.specs.Stops.{EndsUnread}
-use Rattle.bcder_content.specs.Ran.{Enters, Leaves, EntersOctets, LeavesOctets}
-use Rattle.bcder_content.specs.Either.{in_octets, Meeting, RanAny, AnyRefused, none_wanted, any_refused, any_goes_on, TakesCases, Takes, TakesNextCases, TakesNext, TakesOptCases, TakesOpt, WithTag, ReadsInAs}
+use Rattle.bcder_content.specs.ClosureReads.{Enters, Leaves, EntersOctets, LeavesOctets}
+use Rattle.bcder_content.specs.Either.{in_octets, Meeting, ClosureReadsAny, AnyRefused, none_wanted, any_refused, any_goes_on, TakesCases, Takes, TakesNextCases, TakesNext, TakesOptCases, TakesOpt, WithTag, ReadsInAs}
 use Rattle.bcder_content.proofs.Opening.{opens_tag}
 use Rattle.bcder_content.proofs.Took.{took_front}
 use Rattle.bcder_content.proofs.Inside.{whole_inside, took_inside, whole_octets, took_octets, tagged_lacks}
@@ -53,11 +53,11 @@ primitive_next {B} P {old} {inner} {tag} n l = record { none = λ t x p a. let o
         let same : primitive u v ≡ primitive tag v = ap (λ (z : TagValue). primitive z v) e in
         l.none v x (subst (λ (t : Tree). P t x) same p) (whole_octets v (enters_octets n) (subst (Ahead old) same a))
 
-any_lacks : {T B E : Type 0} {meets : Meeting T E} {f : T → B} (P : Tree → B → Type 0) (old : ValuesLeft) (form : Bool) (tag : TagValue) (span : Span) (x : _) (pos : _) (end : ValuesLeft) → AnyReads meets old.mode f P → RanAny meets old form tag span (Err (Content x pos)) end → Lacks P old
+any_lacks : {T B E : Type 0} {meets : Meeting T E} {f : T → B} (P : Tree → B → Type 0) (old : ValuesLeft) (form : Bool) (tag : TagValue) (span : Span) (x : _) (pos : _) (end : ValuesLeft) → AnyReads meets old.mode f P → ClosureReadsAny meets old form tag span (Err (Content x pos)) end → Lacks P old
 any_lacks P old true tag span x pos end exact on = constructed_next P on.enters (exact.each true tag on.inner (Err (Content x pos)) end on.enters.mode on.met)
 any_lacks P old false tag span x pos end exact on = primitive_next P on.enters (exact.each false tag on.inner (Err (Content x pos)) end on.enters.mode on.met)
 
-any_unread : {T B E : Type 0} {meets : Meeting T E} {f : T → B} (P : Tree → B → Type 0) (old : ValuesLeft) (form : Bool) (tag : TagValue) (span : Span) (x : T) (end : ValuesLeft) → AnyReads meets old.mode f P → RanAny meets old form tag span (Ok x) end → EndsUnread span end.failed (octets end) → Lacks P old
+any_unread : {T B E : Type 0} {meets : Meeting T E} {f : T → B} (P : Tree → B → Type 0) (old : ValuesLeft) (form : Bool) (tag : TagValue) (span : Span) (x : T) (end : ValuesLeft) → AnyReads meets old.mode f P → ClosureReadsAny meets old form tag span (Ok x) end → EndsUnread span end.failed (octets end) → Lacks P old
 any_unread P old true tag span x end exact on unread =
     let given = exact.each true tag on.inner (Ok x) end on.enters.mode on.met in
     let kind : end.end ≡ ending_of span = given.took.goes.end ∙ on.enters.end in
@@ -75,7 +75,7 @@ any_refusal P old x pos kind exact h =
       | any_goes_on form tag span end y on unread ↦ any_unread P old form tag span y end exact on unread
     ]
 
-any_gives : {T B E : Type 0} {meets : Meeting T E} {f : T → B} (P : Tree → B → Type 0) (old new : ValuesLeft) (form : Bool) (tag : TagValue) (span : Span) (x : T) (end : ValuesLeft) → AnyReads meets old.mode f P → RanAny meets old form tag span (Ok x) end → Leaves old span end new → Gives P old (f x) new
+any_gives : {T B E : Type 0} {meets : Meeting T E} {f : T → B} (P : Tree → B → Type 0) (old new : ValuesLeft) (form : Bool) (tag : TagValue) (span : Span) (x : T) (end : ValuesLeft) → AnyReads meets old.mode f P → ClosureReadsAny meets old form tag span (Ok x) end → Leaves old span end new → Gives P old (f x) new
 any_gives P old new true tag span x end exact on l =
     let given = exact.each true tag on.inner (Ok x) end on.enters.mode on.met in
     record { tree = constructed tag given.trees; is = given.is; took = took_inside on.enters given.took l }

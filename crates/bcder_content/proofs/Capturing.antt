@@ -12,7 +12,7 @@ use Rattle.bcder_content.specs.declared.constructed.Constructed.{Constructed}
 use Rattle.bcder_content.specs.Contents.{ValuesLeft, octets, TookAll}
 use Rattle.bcder_content.specs.Here.{here}
 use Rattle.bcder_content.specs.Kept.{CapturedValue, SpellsValues}
-use Rattle.bcder_content.specs.Ran.{Reader}
+use Rattle.bcder_content.specs.ClosureReads.{Reader}
 use Rattle.bcder_content.proofs.Taking.{on_content}
 use Rattle.bcder_content.specs.Captures.{rest_of, cut, ReadsSome, RefusesIn, Keeps, KeepsNone, was_refused, Wants, closure_wants, RefusedAt, refused_behind, CapturesCases, Rebased}
 

@@ -7,7 +7,7 @@ use Rattle.bcder_content.specs.bcder_source.Errors.{OnContent}
 use Rattle.bcder_content.specs.bcder_source.declared.error.DecodeError.{DecodeError}
 use Rattle.bcder_content.specs.Contents.{ValuesLeft, Unlike}
 use Rattle.bcder_content.specs.Exact.{Gives, Lacks, LacksTagged, LacksAll, ReadsAs}
-use Rattle.bcder_content.specs.Grammar.{Such, OneOf, As, Then, Tagged, One}
+use Rattle.bcder_content.specs.Grammar.{Where, OneOf, As, Then, Tagged, One}
 use Rattle.bcder_content.proofs.Taking.{weaker}
 use Rattle.bcder_content.proofs.Took.{one_took}
 use Rattle.bcder_content.proofs.Forests.{Reading, first_lacks, unlike_lacks}
@@ -19,13 +19,13 @@ stop_value {E = E} f {P} {now} new (Err x) e a h fact = subst (λ (y : DecodeErr
 
 -- A test of a value.
 
-pub such_gives : {A : Type 0} {Q : Tree → A → Type 0} {passes : A → Type 0} {now new : ValuesLeft} {x : A} → Gives Q now x new → passes x → Gives (Such Q passes) now x new
+pub such_gives : {A : Type 0} {Q : Tree → A → Type 0} {passes : A → Type 0} {now new : ValuesLeft} {x : A} → Gives Q now x new → passes x → Gives (Where Q passes) now x new
 such_gives g h = record { tree = g.tree; is = record { is = g.is; meets = h }; took = g.took }
 
-pub such_lacks : {A : Type 0} {Q : Tree → A → Type 0} {passes : A → Type 0} {now : ValuesLeft} → Lacks Q now → Lacks (Such Q passes) now
+pub such_lacks : {A : Type 0} {Q : Tree → A → Type 0} {passes : A → Type 0} {now : ValuesLeft} → Lacks Q now → Lacks (Where Q passes) now
 such_lacks l = record { none = λ t x p a. l.none t x p.is a }
 
-pub such_refused : {A : Type 0} {Q : Tree → A → Type 0} {passes : A → Type 0} {now new : ValuesLeft} {x : A} → One Q → Gives Q now x new → (passes x → ⊥) → Lacks (Such Q passes) now
+pub such_refused : {A : Type 0} {Q : Tree → A → Type 0} {passes : A → Type 0} {now new : ValuesLeft} {x : A} → One Q → Gives Q now x new → (passes x → ⊥) → Lacks (Where Q passes) now
 such_refused {A} {Q} {passes} {now} {new} {x} one g refuses = record {
   none = λ t y p a.
       let e = (one_took g.took a.1).0 in
@@ -33,7 +33,7 @@ such_refused {A} {Q} {passes} {now} {new} {x} one g refuses = record {
 }
 
 -- A field was read that doesn't pass its test.
-pub stop_such : {A B C : Type 0} {P : Trees → A → Type 0} {Q : Tree → B → Type 0} {passes : B → Type 0} {R : Trees → C → Type 0} {k : B × C → A} {start now new : ValuesLeft} {some : Bool} {x : B} → Reading P (Then (Such Q passes) R) k start now some → One Q → Gives Q now x new → (passes x → ⊥) → LacksAll P start
+pub stop_such : {A B C : Type 0} {P : Trees → A → Type 0} {Q : Tree → B → Type 0} {passes : B → Type 0} {R : Trees → C → Type 0} {k : B × C → A} {start now new : ValuesLeft} {some : Bool} {x : B} → Reading P (Then (Where Q passes) R) k start now some → One Q → Gives Q now x new → (passes x → ⊥) → LacksAll P start
 stop_such {R = R} s one g refuses = s.lacks (first_lacks R (such_refused one g refuses))
 
 -- What a value means.

@@ -13,7 +13,7 @@ use Rattle.bcder_content.specs.declared.constructed.Constructed.{Constructed}
 use Rattle.bcder_content.specs.Contents.{ValuesLeft, octets}
 use Rattle.bcder_content.specs.Exact.{ReadsAs, DecodesAs}
 use Rattle.bcder_content.specs.Here.{here}
-use Rattle.bcder_content.specs.Ran.{Reader, fresh, RanIn, refused_in, failed_in, DecodedCases, Decoded}
+use Rattle.bcder_content.specs.ClosureReads.{Reader, fresh, ClosureReadsIn, refused_in, failed_in, DecodedCases, Decoded}
 use Rattle.bcder_content.proofs.Took.{took_front}
 use Rattle.bcder_content.proofs.Nexts.{front_next}
 
@@ -30,7 +30,7 @@ value_met {F} {S} {T} {B} {E} {m} {rest} {g} {op} {f} {P} exact given stop r mod
     (subst (λ (w : Constructed S). ReadsAs f P (here rest met.shown.now) r (here rest w)) met.leaves
     (exact.each met.shown met.left r (ap (λ (v : Constructed S). (here rest v).mode) met.shows ∙ mode) met.met))
 
-in_fresh : {F S T B E : Type 0} {m : Mode} {rest : S → List ℕ} {g : Reader F (Constructed S) T E} {op : F} {f : T → B} {P : Tree → B → Type 0} {o : List ℕ} {r : Result T (DecodeError E)} {end : ValuesLeft} → ValueEach m rest g op f P → RanIn rest g op (fresh m o) r end → ReadsAs f P (fresh m o) r end
+in_fresh : {F S T B E : Type 0} {m : Mode} {rest : S → List ℕ} {g : Reader F (Constructed S) T E} {op : F} {f : T → B} {P : Tree → B → Type 0} {o : List ℕ} {r : Result T (DecodeError E)} {end : ValuesLeft} → ValueEach m rest g op f P → ClosureReadsIn rest g op (fresh m o) r end → ReadsAs f P (fresh m o) r end
 in_fresh {F} {S} {T} {B} {E} {m} {rest} {g} {op} {f} {P} {o} {r} {end} exact on =
     subst (λ (v : ValuesLeft). ReadsAs f P (fresh m o) r v) on.ends
     (subst (λ (v : ValuesLeft). ReadsAs f P v r (here rest on.left)) on.starts

@@ -8,7 +8,7 @@ use Rattle.bcder_content.specs.declared.ending.Ending.{Ending}
 use Rattle.bcder_content.specs.declared.ending.Span.{Span}
 use Rattle.bcder_content.specs.Contents.{ValuesLeft, octets, Ended, form_of}
 use Rattle.bcder_content.specs.Stops.{NoneAhead, EndsUnread, LeftBy}
-use Rattle.bcder_content.specs.Ran.{Enters}
+use Rattle.bcder_content.specs.ClosureReads.{Enters}
 use Rattle.bcder_content.specs.Either.{Meeting, none_wanted, any_refused, any_goes_on, TakesCases, Takes, TakesNextCases}
 use Rattle.bcder_content.proofs.Opening.{opens_tag}
 use Rattle.bcder_content.proofs.Took.{took_front}

@@ -11,10 +11,10 @@ use Rattle.bcder_content.specs.bcder_source.declared.error.DecodeError.{DecodeEr
 use Rattle.bcder_content.specs.declared.constructed.Constructed.{Constructed}
 use Rattle.bcder_content.specs.Contents.{ValuesLeft, Unlike, Ended}
 use Rattle.bcder_content.specs.Exact.{Gives, Lacks, LacksTagged, LacksAll, GivesAll, ReadsAs, ReadsOptAs}
-use Rattle.bcder_content.specs.Grammar.{Inside, End, Then, Opt, Default, Many, Such, As, Tagged, One}
+use Rattle.bcder_content.specs.Grammar.{Inside, End, Then, Opt, Default, Many, Where, As, Tagged, One}
 use Rattle.bcder_content.specs.Here.{here}
 use Rattle.bcder_content.specs.InMode.{ReadsFields}
-use Rattle.bcder_content.specs.Ran.{Reader, Ran, RanOpt}
+use Rattle.bcder_content.specs.ClosureReads.{Reader, ClosureReads, ClosureReadsOpt}
 use Rattle.bcder_content.specs.Words.{Means}
 use Rattle.bcder_content.proofs.Choices.{such_gives, such_lacks, such_refused, as_gives, as_lacks}
 use Rattle.bcder_content.proofs.Forests as at
@@ -83,36 +83,36 @@ pub record Each {F S T B E : Type 0} (rest : S → List ℕ) (g : Reader F (Cons
 -- A value by a closure.
 pub inside : {F S T B E : Type 0} {rest : S → List ℕ} {g : Reader F (Constructed S) T E} {op : F} {f : T → B} {P : Mode → Trees → B → Type 0}
     {old new : ValuesLeft} {tag : TagValue} {r : Result T (DecodeError E)}
-    → Each rest g op f P → Ran rest g op old tag r new → ReadsAs f (Inside tag (P old.mode)) old r new
+    → Each rest g op f P → ClosureReads rest g op old tag r new → ReadsAs f (Inside tag (P old.mode)) old r new
 inside {f = f} {P} exact h = exact_each (record { each = λ p q r m k. all_in f P _ _ r m (exact.each p q r k).reads }) h
 
 -- An optional value by a closure.
 pub inside_opt : {F S T B E : Type 0} {rest : S → List ℕ} {g : Reader F (Constructed S) T E} {op : F} {f : T → B} {P : Mode → Trees → B → Type 0}
     {old new : ValuesLeft} {tag : TagValue} {r : Result (Option T) (DecodeError E)}
-    → Each rest g op f P → RanOpt rest g op old tag r new → ReadsOptAs f tag (Inside tag (P old.mode)) old r new
+    → Each rest g op f P → ClosureReadsOpt rest g op old tag r new → ReadsOptAs f tag (Inside tag (P old.mode)) old r new
 inside_opt {f = f} {P} exact h = exact_opt (record { each = λ p q r m k. all_in f P _ _ r m (exact.each p q r k).reads }) h
 
 -- A field that is tested, or of which only some values mean something.
 
 pub next_such : {A B C : Type 0} {P : Mode → Trees → A → Type 0} {Q : Mode → Tree → B → Type 0} {passes : B → Type 0}
     {R : Mode → Trees → C → Type 0} {k : B × C → A} {start now new : ValuesLeft} {some : Bool} {x : B}
-    → Fields P (λ m. Then (Such (Q m) passes) (R m)) k start now some → Gives (Q now.mode) now x new → passes x
+    → Fields P (λ m. Then (Where (Q m) passes) (R m)) k start now some → Gives (Q now.mode) now x new → passes x
     → Fields P R (λ b. k (x, b)) start new true
-next_such {Q = Q} {passes} s g h = next {Q = λ m. Such (Q m) passes} s (such_gives g h)
+next_such {Q = Q} {passes} s g h = next {Q = λ m. Where (Q m) passes} s (such_gives g h)
 
 pub stop_such : {A B C D E : Type 0} {P : Mode → Trees → A → Type 0} {Q : Mode → Tree → B → Type 0} {passes : B → Type 0}
     {R : Mode → Trees → C → Type 0} {k : B × C → A} {start now : ValuesLeft} {some : Bool} {f : D → A} {new : ValuesLeft}
     {r : Result D (DecodeError E)} (e : DecodeError E)
-    → Fields P (λ m. Then (Such (Q m) passes) (R m)) k start now some → IsErr r × IsErrAnd r (λ x. x ≡ e)
+    → Fields P (λ m. Then (Where (Q m) passes) (R m)) k start now some → IsErr r × IsErrAnd r (λ x. x ≡ e)
     → OnContent e (Lacks (Q now.mode) now) → ReadsFields f P start r new
-stop_such {Q = Q} {passes} e s a h = stop {Q = λ m. Such (Q m) passes} e s a (weaker e such_lacks h)
+stop_such {Q = Q} {passes} e s a h = stop {Q = λ m. Where (Q m) passes} e s a (weaker e such_lacks h)
 
 pub unfit_such : {A B C D E : Type 0} {P : Mode → Trees → A → Type 0} {Q : Mode → Tree → B → Type 0} {passes : B → Type 0}
     {R : Mode → Trees → C → Type 0} {k : B × C → A} {start now mid : ValuesLeft} {some : Bool} {f : D → A} {new : ValuesLeft}
     {e : DecodeError E} {x : B}
-    → Fields P (λ m. Then (Such (Q m) passes) (R m)) k start now some → ((m : Mode) → One (Q m)) → Gives (Q now.mode) now x mid
+    → Fields P (λ m. Then (Where (Q m) passes) (R m)) k start now some → ((m : Mode) → One (Q m)) → Gives (Q now.mode) now x mid
     → (passes x → ⊥) → ReadsFields f P start (Err e) new
-unfit_such {Q = Q} {passes} s one g refuses = unfit {Q = λ m. Such (Q m) passes} s (such_refused (one _) g refuses)
+unfit_such {Q = Q} {passes} s one g refuses = unfit {Q = λ m. Where (Q m) passes} s (such_refused (one _) g refuses)
 
 pub next_as : {A B C D : Type 0} {P : Mode → Trees → A → Type 0} {Q : Mode → Tree → B → Type 0} {h : B → C} {R : Mode → Trees → D → Type 0}
     {k : C × D → A} {start now new : ValuesLeft} {some : Bool} {x : B}

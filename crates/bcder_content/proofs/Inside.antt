@@ -21,7 +21,7 @@ use Rattle.bcder_content.specs.Exact.{Lacks, ReadsAs, LacksTagged, ReadsOptAs, L
 use Rattle.bcder_content.specs.Grammar.{Inside, OctetsOf}
 use Rattle.bcder_content.specs.Here.{here, plain}
 use Rattle.bcder_content.specs.Stops.{EndsUnread}
-use Rattle.bcder_content.specs.Ran.{Enters, Leaves, EntersOctets, LeavesOctets, Comes, Reader, RanRefused, no_value, refused, goes_on, RanCases, Ran, RanOptCases, RanOpt, PlainRefused, no_octets, refused_octets, octets_go_on, PlainRanCases, PlainRan, PlainRanOptCases, PlainRanOpt}
+use Rattle.bcder_content.specs.ClosureReads.{Enters, Leaves, EntersOctets, LeavesOctets, Comes, Reader, ClosureReadsRefused, no_value, refused, goes_on, ClosureReadsCases, ClosureReads, ClosureReadsOptCases, ClosureReadsOpt, PlainRefused, no_octets, refused_octets, octets_go_on, PlainClosureReadsCases, PlainClosureReads, PlainClosureReadsOptCases, PlainClosureReadsOpt}
 use Rattle.bcder_content.proofs.Opening.{constructed_closed, primitive_closed, constructed_content, primitive_content, ends_here}
 use Rattle.bcder_content.proofs.Took.{took_front, one_took}
 
@@ -89,7 +89,7 @@ inside_goes_on {B} {P} {old} {inner} {end} {stop} {tag} {span} n given same unre
     at : Ended stop → ⊥
     at h = unread.goes_on h.sound (subst (λ (e : Ending). EndsHere e (octets stop)) kind h.ends)
 
-inside_refused : {F S T B E : Type 0} {rest : S → List ℕ} {g : Reader F (Constructed S) T E} {op : F} {f : T → B} {P : Trees → B → Type 0} {old : ValuesLeft} {tag : TagValue} (x : _) (pos : _) → ReadsEach old.mode rest g op f P → RanRefused rest g op old tag (Content x pos) → Lacks (Inside tag P) old
+inside_refused : {F S T B E : Type 0} {rest : S → List ℕ} {g : Reader F (Constructed S) T E} {op : F} {f : T → B} {P : Trees → B → Type 0} {old : ValuesLeft} {tag : TagValue} (x : _) (pos : _) → ReadsEach old.mode rest g op f P → ClosureReadsRefused rest g op old tag (Content x pos) → Lacks (Inside tag P) old
 inside_refused {F} {S} {T} {B} {E} {rest} {g} {op} {f} {P} {old} {tag} x pos exact h =
     elim h [
       | no_value n ↦ record { none = λ t v p a. n.none t a (ap tag_of p.whole) (ap form_of p.whole) }
@@ -97,7 +97,7 @@ inside_refused {F} {S} {T} {B} {E} {rest} {g} {op} {f} {P} {old} {tag} x pos exa
       | goes_on span end v on unread ↦ inside_goes_on on.enters (each_met exact on.given on.left (Ok v) on.enters.mode on.met) on.ends unread
     ]
 
-inside_cases : {F S T B E : Type 0} {rest : S → List ℕ} {g : Reader F (Constructed S) T E} {op : F} {f : T → B} {P : Trees → B → Type 0} (old new : ValuesLeft) (tag : TagValue) (r : Result T (DecodeError E)) → ReadsEach old.mode rest g op f P → RanCases rest g op old tag r new → ReadsAs f (Inside tag P) old r new
+inside_cases : {F S T B E : Type 0} {rest : S → List ℕ} {g : Reader F (Constructed S) T E} {op : F} {f : T → B} {P : Trees → B → Type 0} (old new : ValuesLeft) (tag : TagValue) (r : Result T (DecodeError E)) → ReadsEach old.mode rest g op f P → ClosureReadsCases rest g op old tag r new → ReadsAs f (Inside tag P) old r new
 inside_cases {rest = rest} {g} {op} {f} {P} old new tag (Ok x) exact h =
     let on = h.2 in
     let given = each_met exact on.given on.left (Ok x) on.enters.mode on.met in
@@ -110,7 +110,7 @@ inside_cases old new tag (Err (Content x pos)) exact h = inside_refused x pos ex
 inside_cases old new tag (Err (Source x)) exact h = tt
 inside_cases old new tag (Err Memory) exact h = tt
 
-pub exact_each : {F S T B E : Type 0} {rest : S → List ℕ} {g : Reader F (Constructed S) T E} {op : F} {f : T → B} {P : Trees → B → Type 0} {old new : ValuesLeft} {tag : TagValue} {r : Result T (DecodeError E)} → ReadsEach old.mode rest g op f P → Ran rest g op old tag r new → ReadsAs f (Inside tag P) old r new
+pub exact_each : {F S T B E : Type 0} {rest : S → List ℕ} {g : Reader F (Constructed S) T E} {op : F} {f : T → B} {P : Trees → B → Type 0} {old new : ValuesLeft} {tag : TagValue} {r : Result T (DecodeError E)} → ReadsEach old.mode rest g op f P → ClosureReads rest g op old tag r new → ReadsAs f (Inside tag P) old r new
 exact_each {old = old} {new} {tag} {r} exact h = inside_cases old new tag r exact h.cases
 
 -- A refusal where a value of that tag comes.
@@ -119,12 +119,12 @@ tagged_lacks P old tag (Content x pos) c l = record { tagged = c.tagged; lacks =
 tagged_lacks P old tag (Source x) c l = tt
 tagged_lacks P old tag Memory c l = tt
 
-opt_cases : {F S T B E : Type 0} {rest : S → List ℕ} {g : Reader F (Constructed S) T E} {op : F} {f : T → B} {P : Trees → B → Type 0} (old new : ValuesLeft) (tag : TagValue) (r : Result (Option T) (DecodeError E)) → ReadsEach old.mode rest g op f P → RanOptCases rest g op old tag r new → ReadsOptAs f tag (Inside tag P) old r new
+opt_cases : {F S T B E : Type 0} {rest : S → List ℕ} {g : Reader F (Constructed S) T E} {op : F} {f : T → B} {P : Trees → B → Type 0} (old new : ValuesLeft) (tag : TagValue) (r : Result (Option T) (DecodeError E)) → ReadsEach old.mode rest g op f P → ClosureReadsOptCases rest g op old tag r new → ReadsOptAs f tag (Inside tag P) old r new
 opt_cases old new tag (Ok (Some x)) exact h = inside_cases old new tag (Ok x) exact h.cases
 opt_cases old new tag (Ok None) exact h = h
 opt_cases {f = f} {P} old new tag (Err e) exact h = tagged_lacks (Inside tag P) old tag e h.0 (inside_cases old new tag (Err e) exact h.1.cases)
 
-pub exact_opt : {F S T B E : Type 0} {rest : S → List ℕ} {g : Reader F (Constructed S) T E} {op : F} {f : T → B} {P : Trees → B → Type 0} {old new : ValuesLeft} {tag : TagValue} {r : Result (Option T) (DecodeError E)} → ReadsEach old.mode rest g op f P → RanOpt rest g op old tag r new → ReadsOptAs f tag (Inside tag P) old r new
+pub exact_opt : {F S T B E : Type 0} {rest : S → List ℕ} {g : Reader F (Constructed S) T E} {op : F} {f : T → B} {P : Trees → B → Type 0} {old new : ValuesLeft} {tag : TagValue} {r : Result (Option T) (DecodeError E)} → ReadsEach old.mode rest g op f P → ClosureReadsOpt rest g op old tag r new → ReadsOptAs f tag (Inside tag P) old r new
 exact_opt {old = old} {new} {tag} {r} exact h = opt_cases old new tag r exact h.cases
 
 -- The octets of a primitive value that is next are all that is left of its content.
@@ -159,7 +159,7 @@ took_octets n m l =
     let c = primitive_closed n.opens m l.closes in
     record { text = c.text; spelled = c.spelled; goes = record { moved = c.moved; mode = l.mode; end = l.ending; before = n.before; behind = l.behind } }
 
-octets_cases : {F S T B E : Type 0} {rest : S → List ℕ} {g : Reader F (Primitive S) T E} {op : F} {f : T → B} {P : List ℕ → B → Type 0} (old new : ValuesLeft) (tag : TagValue) (r : Result T (DecodeError E)) → PlainEach old.mode rest g op f P → PlainRanCases rest g op old tag r new → ReadsAs f (OctetsOf tag P) old r new
+octets_cases : {F S T B E : Type 0} {rest : S → List ℕ} {g : Reader F (Primitive S) T E} {op : F} {f : T → B} {P : List ℕ → B → Type 0} (old new : ValuesLeft) (tag : TagValue) (r : Result T (DecodeError E)) → PlainEach old.mode rest g op f P → PlainClosureReadsCases rest g op old tag r new → ReadsAs f (OctetsOf tag P) old r new
 octets_cases {rest = rest} {g} {op} {f} {P} old new tag (Ok x) exact h =
     let on = h.2 in
     let given = plain_met exact on.given on.left (Ok x) on.enters.mode on.met in
@@ -172,13 +172,13 @@ octets_cases old new tag (Err (Content x pos)) exact h = octets_refused x pos ex
 octets_cases old new tag (Err (Source x)) exact h = tt
 octets_cases old new tag (Err Memory) exact h = tt
 
-pub exact_octets : {F S T B E : Type 0} {rest : S → List ℕ} {g : Reader F (Primitive S) T E} {op : F} {f : T → B} {P : List ℕ → B → Type 0} {old new : ValuesLeft} {tag : TagValue} {r : Result T (DecodeError E)} → PlainEach old.mode rest g op f P → PlainRan rest g op old tag r new → ReadsAs f (OctetsOf tag P) old r new
+pub exact_octets : {F S T B E : Type 0} {rest : S → List ℕ} {g : Reader F (Primitive S) T E} {op : F} {f : T → B} {P : List ℕ → B → Type 0} {old new : ValuesLeft} {tag : TagValue} {r : Result T (DecodeError E)} → PlainEach old.mode rest g op f P → PlainClosureReads rest g op old tag r new → ReadsAs f (OctetsOf tag P) old r new
 exact_octets {old = old} {new} {tag} {r} exact h = octets_cases old new tag r exact h.cases
 
-opt_octets_cases : {F S T B E : Type 0} {rest : S → List ℕ} {g : Reader F (Primitive S) T E} {op : F} {f : T → B} {P : List ℕ → B → Type 0} (old new : ValuesLeft) (tag : TagValue) (r : Result (Option T) (DecodeError E)) → PlainEach old.mode rest g op f P → PlainRanOptCases rest g op old tag r new → ReadsOptAs f tag (OctetsOf tag P) old r new
+opt_octets_cases : {F S T B E : Type 0} {rest : S → List ℕ} {g : Reader F (Primitive S) T E} {op : F} {f : T → B} {P : List ℕ → B → Type 0} (old new : ValuesLeft) (tag : TagValue) (r : Result (Option T) (DecodeError E)) → PlainEach old.mode rest g op f P → PlainClosureReadsOptCases rest g op old tag r new → ReadsOptAs f tag (OctetsOf tag P) old r new
 opt_octets_cases old new tag (Ok (Some x)) exact h = octets_cases old new tag (Ok x) exact h.cases
 opt_octets_cases old new tag (Ok None) exact h = h
 opt_octets_cases {f = f} {P} old new tag (Err e) exact h = tagged_lacks (OctetsOf tag P) old tag e h.0 (octets_cases old new tag (Err e) exact h.1.cases)
 
-pub exact_opt_octets : {F S T B E : Type 0} {rest : S → List ℕ} {g : Reader F (Primitive S) T E} {op : F} {f : T → B} {P : List ℕ → B → Type 0} {old new : ValuesLeft} {tag : TagValue} {r : Result (Option T) (DecodeError E)} → PlainEach old.mode rest g op f P → PlainRanOpt rest g op old tag r new → ReadsOptAs f tag (OctetsOf tag P) old r new
+pub exact_opt_octets : {F S T B E : Type 0} {rest : S → List ℕ} {g : Reader F (Primitive S) T E} {op : F} {f : T → B} {P : List ℕ → B → Type 0} {old new : ValuesLeft} {tag : TagValue} {r : Result (Option T) (DecodeError E)} → PlainEach old.mode rest g op f P → PlainClosureReadsOpt rest g op old tag r new → ReadsOptAs f tag (OctetsOf tag P) old r new
 exact_opt_octets {old = old} {new} {tag} {r} exact h = opt_octets_cases old new tag r exact h.cases

@@ -20,7 +20,7 @@ use Rattle.bcder_content.specs.Exact.{LacksAll, ReadsAs, ReadsAllAs}
 use Rattle.bcder_content.specs.Grammar.{Any, Exactly, ExactlyAll}
 use Rattle.bcder_content.specs.Here.{here}
 use Rattle.bcder_content.specs.Kept.{CapturedValue}
-use Rattle.bcder_content.specs.Ran.{Reader, RanIn}
+use Rattle.bcder_content.specs.ClosureReads.{Reader, ClosureReadsIn}
 use Rattle.bcder_content.specs.Captures.{rest_of, cut, Keeps, ReadsSome, was_failed, was_refused, Wants, closure_wants, octets_want, CapturesCases, Captures, CapturesAll}
 use Rattle.bcder_content.proofs.Opening.{front_moves, cancel_more}
 use Rattle.bcder_content.proofs.Inside.{ReadsEach, each_met}
@@ -71,7 +71,7 @@ same_text {v} {w} {a} {b} g h = append_cancel_right a b w.rest (sym g.moved.rest
 lacks_kept : {B : Type 0} {P : Trees → B → Type 0} {v : ValuesLeft} {m : Mode} → LacksAll P (cut v) → LacksAll (ExactlyAll m P) v
 lacks_kept l = record { none = λ ts o p w. l.none ts p.x p.is (whole_cut w) }
 
-in_slice : {F B D : Type 0} {m : Mode} {g : Reader F (Constructed Reading) (Unit {0}) D} {op : F} {f : Unit {0} → B} {P : Trees → B → Type 0} (v : ValuesLeft) {r : Result (Unit {0}) (DecodeError D)} {end : ValuesLeft} → v.mode ≡ m → ReadsEach m rest_of g op f P → RanIn rest_of g op (cut v) r end → ReadsAllAs f P (cut v) r end
+in_slice : {F B D : Type 0} {m : Mode} {g : Reader F (Constructed Reading) (Unit {0}) D} {op : F} {f : Unit {0} → B} {P : Trees → B → Type 0} (v : ValuesLeft) {r : Result (Unit {0}) (DecodeError D)} {end : ValuesLeft} → v.mode ≡ m → ReadsEach m rest_of g op f P → ClosureReadsIn rest_of g op (cut v) r end → ReadsAllAs f P (cut v) r end
 in_slice {F} {B} {D} {m} {g} {op} {f} {P} v {r} {end} mode exact on =
     subst (λ (w : ValuesLeft). ReadsAllAs f P (cut v) r w) on.ends
     (subst (λ (w : ValuesLeft). ReadsAllAs f P w r (here rest_of on.left)) on.starts
@@ -102,7 +102,7 @@ pub exact_capture : {F B D E : Type 0} {g : Reader F (Constructed Reading) (Unit
 exact_capture {v = v} {new} {r} exact h = kept_cases v new r exact h.cases
 
 -- What each call of a closure says is said of the call that ran on the slice.
-ran_in : {F D : Type 0} {g : Reader F (Constructed Reading) (Unit {0}) D} {op : F} {r : Result (Unit {0}) (DecodeError D)} {v end : ValuesLeft} (Q : ValuesLeft → ValuesLeft → Type 0) → ((p q : MutBor (Constructed Reading)) → g.post op (p, tt) (r, (q, tt)) → Q (here rest_of p.now) (here rest_of q.now)) → RanIn rest_of g op v r end → Q v end
+ran_in : {F D : Type 0} {g : Reader F (Constructed Reading) (Unit {0}) D} {op : F} {r : Result (Unit {0}) (DecodeError D)} {v end : ValuesLeft} (Q : ValuesLeft → ValuesLeft → Type 0) → ((p q : MutBor (Constructed Reading)) → g.post op (p, tt) (r, (q, tt)) → Q (here rest_of p.now) (here rest_of q.now)) → ClosureReadsIn rest_of g op v r end → Q v end
 ran_in {v = v} {end} Q each on =
     let at = each on.met.shown on.met.left on.met.met in
     let given = subst (λ (w : Constructed Reading). Q (here rest_of w) (here rest_of on.met.left.now)) on.met.shows at in

@@ -11,7 +11,7 @@ use Rattle.bcder_content.specs.Exact.{Lacks, ReadsAs}
 use Rattle.bcder_content.specs.Grammar.{ExactlyOf}
 use Rattle.bcder_content.specs.Here.{here}
 use Rattle.bcder_content.specs.Kept.{CapturedValue}
-use Rattle.bcder_content.specs.Ran.{Reader, RanIn}
+use Rattle.bcder_content.specs.ClosureReads.{Reader, ClosureReadsIn}
 use Rattle.bcder_content.specs.Captures.{rest_of, cut, was_failed, was_refused, CapturesCases, Captures}
 use Rattle.bcder_content.proofs.Decoding.{ValueEach, value_met}
 use Rattle.bcder_content.proofs.Kept.{ahead_cut, same_text}
@@ -19,7 +19,7 @@ use Rattle.bcder_content.proofs.Kept.{ahead_cut, same_text}
 lacks_kept : {B : Type 0} {P : Tree → B → Type 0} {v : ValuesLeft} (m : Mode) → Lacks P (cut v) → Lacks (ExactlyOf m P) v
 lacks_kept m l = record { none = λ t o p a. l.none t p.x p.is (ahead_cut a) }
 
-in_slice : {F B D : Type 0} {m : Mode} {g : Reader F (Constructed Reading) (Unit {0}) D} {op : F} {f : Unit {0} → B} {P : Tree → B → Type 0} (v : ValuesLeft) {r : Result (Unit {0}) (DecodeError D)} {end : ValuesLeft} → v.mode ≡ m → ValueEach m rest_of g op f P → RanIn rest_of g op (cut v) r end → ReadsAs f P (cut v) r end
+in_slice : {F B D : Type 0} {m : Mode} {g : Reader F (Constructed Reading) (Unit {0}) D} {op : F} {f : Unit {0} → B} {P : Tree → B → Type 0} (v : ValuesLeft) {r : Result (Unit {0}) (DecodeError D)} {end : ValuesLeft} → v.mode ≡ m → ValueEach m rest_of g op f P → ClosureReadsIn rest_of g op (cut v) r end → ReadsAs f P (cut v) r end
 in_slice {F} {B} {D} {m} {g} {op} {f} {P} v {r} {end} mode exact on =
     subst (λ (w : ValuesLeft). ReadsAs f P (cut v) r w) on.ends
     (subst (λ (w : ValuesLeft). ReadsAs f P w r (here rest_of on.left)) on.starts

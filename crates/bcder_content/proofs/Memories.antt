@@ -8,7 +8,7 @@ use Rattle.bcder_content.specs.bcder_source.Errors.{OnlyContent}
 use Rattle.bcder_content.specs.bcder_tree.Tags.{TagValue}
 use Rattle.bcder_content.specs.Contents.{ValuesLeft}
 use Rattle.bcder_content.specs.declared.ending.Span.{Span}
-use Rattle.bcder_content.specs.Ran.{Enters}
+use Rattle.bcder_content.specs.ClosureReads.{Enters}
 use Rattle.bcder_content.specs.Either.{Meeting}
 use Rattle.bcder_content.specs.Memory.{OnMemory, AnyErr, TaggedErr}
 

@@ -11,7 +11,7 @@ use Rattle.bcder_content.specs.declared.constructed.Constructed.{Constructed}
 use Rattle.bcder_content.specs.Contents.{ValuesLeft, octets, Took, TookAll, EndsHere, Whole}
 use Rattle.bcder_content.specs.Here.{here}
 use Rattle.bcder_content.specs.Kept.{SpellsValues}
-use Rattle.bcder_content.specs.Ran.{Reader, fresh}
+use Rattle.bcder_content.specs.ClosureReads.{Reader, fresh}
 use Rattle.bcder_content.specs.Captures.{rest_of, ReadsFront}
 use Rattle.bcder_content.proofs.Took.{more_splits, whole_others, whole_none, ended_none, none_stays}
 

@@ -7,7 +7,7 @@ use Rattle.bcder_content.specs.bcder_source.Errors.{OnContent}
 use Rattle.bcder_content.specs.bcder_source.declared.error.DecodeError.{DecodeError}
 use Rattle.bcder_content.specs.Contents.{ValuesLeft, Ended, Unlike, tag_of}
 use Rattle.bcder_content.specs.Exact.{Gives, Lacks, LacksTagged, GivesAll, ReadsOptAs}
-use Rattle.bcder_content.specs.Grammar.{OneOf, Many, Such, As, Tagged, One}
+use Rattle.bcder_content.specs.Grammar.{OneOf, Many, Where, As, Tagged, One}
 use Rattle.bcder_content.specs.Perhaps.{NoneNext, ReadsIfAs}
 use Rattle.bcder_content.proofs.Choices.{as_lacks, both_lack, choice_lacks, second_lacks, such_lacks, such_refused}
 use Rattle.bcder_content.proofs.Forests.{Listing, many_lacks, unlike_lacks}
@@ -43,10 +43,10 @@ pub as_none_next : {A B : Type 0} {Q : Tree → A → Type 0} (f : A → B) (old
 as_none_next f old new p = (p.0, record { sound = p.1.sound; lacks = as_lacks f p.1.lacks })
 
 -- A value of that tag that doesn't pass a test.
-pub such_lacks_tagged : {A : Type 0} {tag : TagValue} {Q : Tree → A → Type 0} {passes : A → Type 0} {now : ValuesLeft} → LacksTagged tag Q now → LacksTagged tag (Such Q passes) now
+pub such_lacks_tagged : {A : Type 0} {tag : TagValue} {Q : Tree → A → Type 0} {passes : A → Type 0} {now : ValuesLeft} → LacksTagged tag Q now → LacksTagged tag (Where Q passes) now
 such_lacks_tagged l = record { tagged = l.tagged; lacks = such_lacks l.lacks; goes_on = l.goes_on; other = l.other }
 
-pub such_refused_tagged : {A : Type 0} {tag : TagValue} {Q : Tree → A → Type 0} {passes : A → Type 0} {now new : ValuesLeft} {x : A} → Tagged tag Q → One Q → Gives Q now x new → (passes x → ⊥) → LacksTagged tag (Such Q passes) now
+pub such_refused_tagged : {A : Type 0} {tag : TagValue} {Q : Tree → A → Type 0} {passes : A → Type 0} {now new : ValuesLeft} {x : A} → Tagged tag Q → One Q → Gives Q now x new → (passes x → ⊥) → LacksTagged tag (Where Q passes) now
 such_refused_tagged {x = x} g one given refuses = record {
   tagged = λ u a. ap tag_of (sym (one_took given.took a.1).0) ∙ g.tagged given.tree x given.is;
   lacks = such_refused one given refuses;

@@ -15,7 +15,12 @@ use Rattle.bcder_content.specs.bcder_source.Views.{View, left, Moved}
 use Rattle.bcder_content.specs.declared.ending.Span.{Span}
 use Rattle.bcder_content.specs.Contents.{ValuesLeft, octets, Ended, Unlike, Untold, tag_of, form_of}
 use Rattle.bcder_content.specs.Openings.{Closes, NoValue, OfTag, OfOther}
-use Rattle.bcder_content.specs.Ran.{Enters, NoneOf, Comes}
+use Rattle.std.specs.Fn.{FnOnceReturnsAtMut}
+use Rattle.std.specs.Prelude.{Result}
+use Rattle.bcder_content.specs.Here.{here, plain}
+use Rattle.bcder_content.specs.declared.constructed.Constructed.{Constructed}
+use Rattle.bcder_primitive.specs.declared.primitive.Primitive.{Primitive}
+use Rattle.bcder_content.specs.ClosureReads.{Enters, NoneOf, Comes, Reader, ClosureReadsOn, PlainClosureReadsOn}
 use Rattle.bcder_content.specs.Stops.{NoneAhead, EndsUnread, NamesTag}
 use Rattle.bcder_content.proofs.Opening.{tree_head, opens_tag, front_moves, here_ends}
 use Rattle.bcder_content.proofs.Windows.{Shown, one_tag, no_end_in, shown_whole}
@@ -111,6 +116,19 @@ untold_failed {v} e = record { goes_on = λ h. unsound h.sound; none = λ s. abs
     unsound s = let f : true ≡ false = sym e ∙ s in absurd cc
 
 -- A value with the tag that was expected is next, so that none is named.
+-- A closure answered that was given the values of the value in front, or its octets.
+pub ran_on : {F S T E : Type 0} {rest : S → List ℕ} {g : Reader F (Constructed S) T E} {op : F} {old : ValuesLeft} {tag : TagValue} {span : Span} {r : Result T (DecodeError E)} (given left : Constructed S) → Enters old true tag span (here rest given) → FnOnceReturnsAtMut g op given r left → ClosureReadsOn rest g op old tag span r (here rest left)
+ran_on given left n met = record { given = given; left = left; enters = n; met = met; ends = refl }
+
+pub ran_plain : {F S T E : Type 0} {rest : S → List ℕ} {g : Reader F (Primitive S) T E} {op : F} {old : ValuesLeft} {tag : TagValue} {span : Span} {r : Result T (DecodeError E)} (given : Constructed S) (left : Primitive S) → Enters old false tag span (here rest given) → FnOnceReturnsAtMut g op given.octets r left → PlainClosureReadsOn rest g op old tag span r (plain rest left)
+ran_plain given left n met = record {
+  given = given.octets;
+  left = left;
+  enters = record { opens = n.opens; mode = n.mode; before = n.before; sound = n.sound };
+  met = met;
+  ends = refl;
+}
+
 pub tag_named : {E : Type 0} {old inner : ValuesLeft} {k : Bool} {tag : TagValue} {span : Span} (e : DecodeError E) → Enters old k tag span inner → OnContent e (NamesTag old tag e)
 tag_named e n = on_content e (record { names = λ u a d. absurd (d (opens_tag u n.opens (took_front a.1)).0) })
 

@@ -4,7 +4,7 @@ use Rattle.bcder_content.specs.bcder_tree.Tags.{TagValue}
 use Rattle.bcder_content.specs.bcder_tree.Tree.{Tree, Trees, primitive, constructed, none, more}
 use Rattle.bcder_content.specs.Contents.{tag_of}
 use Rattle.bcder_primitive.specs.Values.{IsUnsigned, AnyOctets}
-use Rattle.bcder_content.specs.Grammar.{Inside, OctetsOf, Any, Such, OneOf, As, End, Rest, Then, OptCases, Opt, Default, ManyCases, Many, Tagged, One, OneAll, OneOctets}
+use Rattle.bcder_content.specs.Grammar.{Inside, OctetsOf, Any, Where, OneOf, As, End, Rest, Then, OptCases, Opt, Default, ManyCases, Many, Tagged, One, OneAll, OneOctets}
 
 -- Tags.
 
@@ -14,7 +14,7 @@ inside_tagged tag P = record { tagged = λ t x p. ap tag_of p.whole }
 pub octets_tagged : {A : Type 0} (tag : TagValue) (P : List ℕ → A → Type 0) → Tagged tag (OctetsOf tag P)
 octets_tagged tag P = record { tagged = λ t x p. ap tag_of p.whole }
 
-pub such_tagged : {A : Type 0} {tag : TagValue} {Q : Tree → A → Type 0} {passes : A → Type 0} → Tagged tag Q → Tagged tag (Such Q passes)
+pub such_tagged : {A : Type 0} {tag : TagValue} {Q : Tree → A → Type 0} {passes : A → Type 0} → Tagged tag Q → Tagged tag (Where Q passes)
 such_tagged g = record { tagged = λ t x p. g.tagged t x p.is }
 
 pub as_tagged : {A B : Type 0} {tag : TagValue} {Q : Tree → A → Type 0} {f : A → B} → Tagged tag Q → Tagged tag (As Q f)
@@ -56,7 +56,7 @@ inside_one {A} {tag} {P} o = record { one = λ t x y p q. o.one q.values x y (su
 pub any_one : One Any
 any_one = record { one = λ t x y p q. refl }
 
-pub such_one : {A : Type 0} {Q : Tree → A → Type 0} {passes : A → Type 0} → One Q → One (Such Q passes)
+pub such_one : {A : Type 0} {Q : Tree → A → Type 0} {passes : A → Type 0} → One Q → One (Where Q passes)
 such_one o = record { one = λ t x y p q. o.one t x y p.is q.is }
 
 pub as_one : {A B : Type 0} {Q : Tree → A → Type 0} {f : A → B} → One Q → One (As Q f)

@@ -17,7 +17,7 @@ use Rattle.bcder_primitive.specs.Sliced.{Reader}
 use Rattle.bcder_content.specs.Contents.{ValuesLeft, Ahead}
 use Rattle.bcder_content.specs.Grammar.{OctetsOf}
 use Rattle.bcder_content.specs.Memory.{OnMemory, PlainErr}
-use Rattle.bcder_content.specs.Ran.{EntersOctets}
+use Rattle.bcder_content.specs.ClosureReads.{EntersOctets}
 use Rattle.bcder_content.proofs.Inside.{took_octets}
 use Rattle.bcder_content.proofs.Memories.{no_want, wanted}
 use Rattle.bcder_content.specs.declared.constructed.Constructed.{Constructed}

@@ -21,6 +21,7 @@ pub record HasNext {A : Type 0} (P : Tree → A → Type 0) (v : ValuesLeft) : T
   pub next : Ahead v tree
 
 -- A content is that of a primitive value, and all that is left of it are octets of the grammar.
-pub record HasPrimitive {S A : Type 0} (rest : S → List ℕ) (P : List ℕ → A → Type 0) (c : Content S) : Type 0 where
+pub record HasPrimitive {S A : Type 0} (rest : S → List ℕ) (P : List ℕ → A → Type 0) (c : Content S)
+    : Type 0 where
   pub primitive : form_in c ≡ false
   pub octets : HasOctets P (in_octets (left_of rest c))

@@ -6,7 +6,13 @@ pub use Rattle.bcder_primitive.specs.Plain.{plain}
 
 -- What is left of a content of values, by the rest of its source.
 abbrev pub here : {S : Type 0} → (S → List ℕ) → Constructed S → ValuesLeft
-here rest c = record { mode = c.octets.mode; end = c.end; failed = c.octets.failed; rest = rest c.octets.source.source; limit = c.octets.source.limit }
+here rest c = record {
+  mode = c.octets.mode;
+  end = c.end;
+  failed = c.octets.failed;
+  rest = rest c.octets.source.source;
+  limit = c.octets.source.limit;
+}
 
 -- Where a content begins, by the count of its source's octets: for messages alone.
 abbrev pub start_of : {S : Type 0} → Constructed S → ℕ

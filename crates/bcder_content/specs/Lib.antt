@@ -10,7 +10,7 @@ pub mod Here
 pub mod Ahead
 pub mod Exact
 pub mod Grammar
-pub mod Ran
+pub mod ClosureReads
 pub mod Stops
 pub mod Kept
 pub mod Captures

@@ -12,7 +12,8 @@ pub record Node : Type 0 where
 abbrev mutual
   pub nodes : ℕ → Tree → List Node
   nodes depth (primitive t v) = record { tag = t; form = false; depth = depth } ∷ []
-  nodes depth (constructed t ts) = record { tag = t; form = true; depth = depth } ∷ nodes_all (depth + 1) ts
+  nodes depth (constructed t ts) =
+      record { tag = t; form = true; depth = depth } ∷ nodes_all (depth + 1) ts
 
   pub nodes_all : ℕ → Trees → List Node
   nodes_all depth none = []

@@ -24,7 +24,8 @@ form_of (primitive t v) = false
 form_of (constructed t ts) = true
 
 -- Identifier octets, and length octets of either form, one after the other.
-pub record IsHead (m : Mode) (octets : List ℕ) (form : Bool) (t : TagValue) (l : Length) : Type 0 where
+pub record IsHead (m : Mode) (octets : List ℕ) (form : Bool) (t : TagValue) (l : Length)
+    : Type 0 where
   pub identifier : List ℕ
   pub size : List ℕ
   pub whole : octets ≡ identifier ++ size
@@ -35,12 +36,16 @@ pub record IsHead (m : Mode) (octets : List ℕ) (form : Bool) (t : TagValue) (l
 -- So a value begins: by its header's octets, at a limit, the limit on its content is the inner one.
 abbrev pub OpensBy : Mode → Option ℕ → List ℕ → Bool → TagValue → Span → Option ℕ → Type 0
 OpensBy m limit text form t (Until outer) inner =
-    (form ≡ true → HasDefinite m) × ((n : ℕ) × IsHeader m text form t n × (inner ≡ Some n) × (limit ≡ more_limit (length text + n) outer))
+    (form ≡ true → HasDefinite m) × ((n : ℕ) × IsHeader m text form t n × (inner ≡ Some n)
+    × (limit ≡ more_limit (length text + n) outer))
 OpensBy m limit text form t ToEnd inner =
-    (form ≡ true) × HasIndefinite m × ((identifier : List ℕ) × IsTag t × IsIdentifier identifier true t × (text ≡ identifier ++ (128 ∷ []))) × (limit ≡ more_limit (length text) inner)
+    (form ≡ true) × HasIndefinite m × ((identifier : List ℕ) × IsTag t
+    × IsIdentifier identifier true t × (text ≡ identifier ++ (128 ∷ [])))
+    × (limit ≡ more_limit (length text) inner)
 
 -- The header of a value of that form and tag was read: from then on its content is what may be read.
-pub record Opens (m : Mode) (old : View) (form : Bool) (t : TagValue) (span : Span) (inner : View) : Type 0 where
+pub record Opens (m : Mode) (old : View) (form : Bool) (t : TagValue) (span : Span) (inner : View)
+    : Type 0 where
   pub text : List ℕ
   pub rest : old.rest ≡ text ++ inner.rest
   pub how : OpensBy m old.limit text form t span inner.limit
@@ -48,7 +53,8 @@ pub record Opens (m : Mode) (old : View) (form : Bool) (t : TagValue) (span : Sp
 -- The content has ended, and reading is past the value: where its octets were counted, with the limit around it; else
 -- after end-of-contents.
 abbrev pub Closes : Span → View → View → Type 0
-Closes (Until outer) end new = (end.limit ≡ Some 0) × (new ≡ record { rest = end.rest; limit = outer })
+Closes (Until outer) end new =
+    (end.limit ≡ Some 0) × (new ≡ record { rest = end.rest; limit = outer })
 Closes ToEnd end new = Moved end (0 ∷ 0 ∷ []) new
 
 -- Where a content ends: after so many octets (8.1.3.3), before end-of-contents (8.1.3.6, 8.1.5), or with the source.
@@ -67,7 +73,8 @@ pub record NoValue (m : Mode) (v : View) : Type 0 where
   pub none : (t : Tree) (rest : List ℕ) → Front m (left v) t rest → ⊥
 
 -- A header of so many octets is in front.
-pub record Heads (m : Mode) (form : Bool) (t : TagValue) (l : Length) (count : ℕ) (octets : List ℕ) : Type 0 where
+pub record Heads (m : Mode) (form : Bool) (t : TagValue) (l : Length) (count : ℕ) (octets : List ℕ)
+    : Type 0 where
   pub text : List ℕ
   pub rest : List ℕ
   pub head : IsHead m text form t l
@@ -76,11 +83,13 @@ pub record Heads (m : Mode) (form : Bool) (t : TagValue) (l : Length) (count : �
 
 -- No header is in front.
 pub record NoHead (m : Mode) (octets : List ℕ) : Type 0 where
-  pub none : (form : Bool) (t : TagValue) (l : Length) (text rest : List ℕ) → IsHead m text form t l → octets ≡ text ++ rest → ⊥
+  pub none : (form : Bool) (t : TagValue) (l : Length) (text rest : List ℕ) → IsHead m text form t l
+      → octets ≡ text ++ rest → ⊥
 
 -- A value with such a header ends so, under that limit.
 abbrev pub Starts : Mode → Option ℕ → Bool → Length → ℕ → Span → Type 0
-Starts m limit form (LengthIs n) count (Until outer) = (form ≡ true → HasDefinite m) × (limit ≡ more_limit (count + n) outer)
+Starts m limit form (LengthIs n) count (Until outer) =
+    (form ≡ true → HasDefinite m) × (limit ≡ more_limit (count + n) outer)
 Starts m limit form (LengthIs n) count ToEnd = ⊥
 Starts m limit form NoLength count (Until outer) = ⊥
 Starts m limit form NoLength count ToEnd = (form ≡ true) × HasIndefinite m

@@ -12,7 +12,8 @@ pub record NoneNext {A : Type 0} (P : Tree → A → Type 0) (old : ValuesLeft) 
   pub lacks : Lacks P old
 
 -- A value of the grammar is next, or none; only where a value that isn't of it is next may it be refused.
-abbrev pub ReadsIfAs : {A B E : Type 0} → (A → B) → (Tree → B → Type 0) → ValuesLeft → Result (Option A) (DecodeError E) → ValuesLeft → Type 0
+abbrev pub ReadsIfAs : {A B E : Type 0} → (A → B) → (Tree → B → Type 0) → ValuesLeft
+    → Result (Option A) (DecodeError E) → ValuesLeft → Type 0
 ReadsIfAs f P old (Ok (Some x)) new = Gives P old (f x) new
 ReadsIfAs f P old (Ok None) new = (new ≡ old) × NoneNext P old
 ReadsIfAs f P old (Err e) new = OnContent e (Lacks P old × (Ended old → ⊥))

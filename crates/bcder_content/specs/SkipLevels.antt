@@ -8,7 +8,8 @@ use Rattle.bcder_content.specs.Openings.{Closes}
 use Rattle.bcder_content.specs.Nodes.{Node, nodes, nodes_all}
 
 -- The rest of the content of one value, its end, and after that K; these nodes are to come.
-pub record Level (m : Mode) (depth : ℕ) (span : Span) (K : View → List Node → Type 0) (v : View) (ns : List Node) : Type 0 where
+pub record Level (m : Mode) (depth : ℕ) (span : Span) (K : View → List Node → Type 0) (v : View)
+    (ns : List Node) : Type 0 where
   pub trees : Trees
   pub text : List ℕ
   pub middle : View
@@ -21,7 +22,8 @@ pub record Level (m : Mode) (depth : ℕ) (span : Span) (K : View → List Node 
   pub after : K end later
 
 -- A value, and after that K.
-pub record Value (m : Mode) (depth : ℕ) (K : View → List Node → Type 0) (v : View) (ns : List Node) : Type 0 where
+pub record Value (m : Mode) (depth : ℕ) (K : View → List Node → Type 0) (v : View) (ns : List Node)
+    : Type 0 where
   pub tree : Tree
   pub text : List ℕ
   pub behind : View
@@ -43,6 +45,7 @@ pub record Behind (seen : List Node) (Q : List Node → Type 0) (ns : List Node)
   pub is : Q others
 
 -- A step that sees these nodes: P before it is Q after it.
-pub record Reaches (P : List Node → Type 0) (seen : List Node) (Q : List Node → Type 0) : Type 0 where
+pub record Reaches (P : List Node → Type 0) (seen : List Node) (Q : List Node → Type 0)
+    : Type 0 where
   pub to : (ns : List Node) → P ns → Behind seen Q ns
   pub from : (ns : List Node) → Q ns → P (seen ++ ns)

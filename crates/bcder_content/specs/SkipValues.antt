@@ -20,7 +20,8 @@ abbrev pub Accepts : {F : Type 0} → Visits F → F → List Node → F → Typ
 Accepts step p ns q = FoldsTo (λ a n b. step a n.tag n.form n.depth (Ok tt) b) p ns q
 
 -- The visitor refuses one of these nodes with that error, and accepts those before it.
-pub record Refuses {F : Type 0} (step : Visits F) (p : F) (ns : List Node) (error : ContentError) : Type 0 where
+pub record Refuses {F : Type 0} (step : Visits F) (p : F) (ns : List Node) (error : ContentError)
+    : Type 0 where
   pub done : List Node
   pub node : Node
   pub others : List Node
@@ -46,5 +47,7 @@ pub record Skips {F : Type 0} (m : Mode) (step : Visits F) (p : F) (old new : Vi
   pub accepted : Accepts step p (nodes 0 tree) last
 
 -- If a value is in front, in so many others, the visitor refuses it or one in it.
-pub record Stops {F : Type 0} (m : Mode) (depth : ℕ) (step : Visits F) (p : F) (v : View) (error : ContentError) : Type 0 where
-  pub refused : (t : Tree) (rest : List ℕ) → Front m (left v) t rest → Refuses step p (nodes depth t) error
+pub record Stops {F : Type 0} (m : Mode) (depth : ℕ) (step : Visits F) (p : F) (v : View)
+    (error : ContentError) : Type 0 where
+  pub refused : (t : Tree) (rest : List ℕ) → Front m (left v) t rest
+      → Refuses step p (nodes depth t) error

@@ -15,11 +15,13 @@ pub record SkipsNext {F : Type 0} (step : Visits F) (p : F) (old new : ValuesLef
   pub accepted : Accepts step p (nodes 0 tree) last
 
 -- If a value is next, the visitor refuses it or one in it.
-pub record StopsNext {F : Type 0} (step : Visits F) (p : F) (old : ValuesLeft) (error : ContentError) : Type 0 where
+pub record StopsNext {F : Type 0} (step : Visits F) (p : F) (old : ValuesLeft)
+    (error : ContentError) : Type 0 where
   pub refused : (t : Tree) → Ahead old t → Refuses step p (nodes 0 t) error
 
 -- The next value is skipped, if there is one.
-abbrev pub SkipsOpt : {F E : Type 0} → Visits F → F → ValuesLeft → Result (Option (Unit {0})) (DecodeError E) → ValuesLeft → Type 0
+abbrev pub SkipsOpt : {F E : Type 0} → Visits F → F → ValuesLeft
+    → Result (Option (Unit {0})) (DecodeError E) → ValuesLeft → Type 0
 SkipsOpt step p old (Ok (Some x)) new = SkipsNext step p old new
 SkipsOpt step p old (Ok None) new = (new ≡ old) × Ended old
 SkipsOpt step p old (Err e) new = OnError e (λ error. StopsNext step p old error × (Ended old → ⊥))

@@ -18,8 +18,10 @@ pub record NoneAhead (v : ValuesLeft) : Type 0 where
   pub none : (t : Tree) → Ahead v t → ⊥
 
 -- Where a value of another tag is next, the refusal names the tag that was expected.
-pub record NamesTag {E : Type 0} (v : ValuesLeft) (tag : TagValue) (e : DecodeError E) : Type 0 where
-  pub names : (t : Tree) → Ahead v t → (tag_of t ≡ tag → ⊥) → (pos : Pos) × (e ≡ Content (ExpectedTag tag) pos)
+pub record NamesTag {E : Type 0} (v : ValuesLeft) (tag : TagValue) (e : DecodeError E)
+    : Type 0 where
+  pub names : (t : Tree) → Ahead v t → (tag_of t ≡ tag → ⊥) → (pos : Pos)
+      × (e ≡ Content (ExpectedTag tag) pos)
 
 -- The content was left, and what is around it is as it was.
 pub record LeftBy (span : Span) (mode : Mode) (end : Ending) (old new : ValuesLeft) : Type 0 where

@@ -7,30 +7,35 @@ use Rattle.bcder_content.specs.bcder_tree.Tags.{TagValue}
 use Rattle.bcder_content.specs.bcder_tree.Tree.{Tree, Trees, Spells, SpellsAll, IsConstructed}
 
 -- The octets spell a value of Q.
-pub record SpellsOf {A : Type 0} (m : Mode) (Q : Tree → A → Type 0) (text : List ℕ) (x : A) : Type 0 where
+pub record SpellsOf {A : Type 0} (m : Mode) (Q : Tree → A → Type 0) (text : List ℕ) (x : A)
+    : Type 0 where
   pub tree : Tree
   pub is : Q tree x
   pub spelled : Spells m tree text
 
 -- The octets spell values of P, one after the other.
-pub record InOrder {A : Type 0} (m : Mode) (P : Trees → A → Type 0) (text : List ℕ) (x : A) : Type 0 where
+pub record InOrder {A : Type 0} (m : Mode) (P : Trees → A → Type 0) (text : List ℕ) (x : A)
+    : Type 0 where
   pub trees : Trees
   pub is : P trees x
   pub spelled : SpellsAll m trees text
 
 -- Octets of P, which mean the octets themselves and what P says.
-pub record WithOctets {A : Type 0} (P : List ℕ → A → Type 0) (text : List ℕ) (x : List ℕ × A) : Type 0 where
+pub record WithOctets {A : Type 0} (P : List ℕ → A → Type 0) (text : List ℕ) (x : List ℕ × A)
+    : Type 0 where
   pub same : x.0 ≡ text
   pub is : P text x.1
 
 -- A constructed value of that tag, by its content octets (X.690 8.1.1.3, 8.1.3.6).
-pub record Wraps {A : Type 0} (m : Mode) (tag : TagValue) (P : List ℕ → A → Type 0) (text : List ℕ) (x : A) : Type 0 where
+pub record Wraps {A : Type 0} (m : Mode) (tag : TagValue) (P : List ℕ → A → Type 0) (text : List ℕ)
+    (x : A) : Type 0 where
   pub content : List ℕ
   pub around : IsConstructed m text tag content
   pub is : P content x
 
 -- Octets of P, and then of R.
-pub record Joins {A B : Type 0} (P : List ℕ → A → Type 0) (R : List ℕ → B → Type 0) (text : List ℕ) (x : A × B) : Type 0 where
+pub record Joins {A B : Type 0} (P : List ℕ → A → Type 0) (R : List ℕ → B → Type 0) (text : List ℕ)
+    (x : A × B) : Type 0 where
   pub first : List ℕ
   pub others : List ℕ
   pub whole : text ≡ first ++ others

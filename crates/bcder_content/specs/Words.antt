@@ -6,19 +6,22 @@ use Rattle.bcder_content.specs.bcder_tree.Tree.{Tree, Trees, more, Spells}
 use Rattle.bcder_content.specs.Grammar.{Many}
 
 -- Values of Q, one for each of a list, and what the list says by R (SEQUENCE OF whose values are tested together).
-pub record Gathers {A S : Type 0} (Q : Tree → A → Type 0) (R : List A → S → Type 0) (ts : Trees) (s : S) : Type 0 where
+pub record Gathers {A S : Type 0} (Q : Tree → A → Type 0) (R : List A → S → Type 0) (ts : Trees)
+    (s : S) : Type 0 where
   pub xs : List A
   pub are : Many Q ts xs
   pub says : R xs s
 
 -- A value of Q, and what its meaning means by R, if anything.
-pub record Means {A B : Type 0} (Q : Tree → A → Type 0) (R : A → B → Type 0) (t : Tree) (y : B) : Type 0 where
+pub record Means {A B : Type 0} (Q : Tree → A → Type 0) (R : A → B → Type 0) (t : Tree) (y : B)
+    : Type 0 where
   pub x : A
   pub is : Q t x
   pub means : R x y
 
 -- A value of Q, and then values that depend on what it means (ANY DEFINED BY).
-pub record ThenBy {A B : Type 0} (Q : Tree → A → Type 0) (R : A → Trees → B → Type 0) (ts : Trees) (x : A × B)
+pub record ThenBy {A B : Type 0} (Q : Tree → A → Type 0) (R : A → Trees → B → Type 0) (ts : Trees)
+    (x : A × B)
     : Type 0 where
   pub first : Tree
   pub others : Trees
@@ -31,6 +34,7 @@ pub record Itself (t x : Tree) : Type 0 where
   pub same : t ≡ x
 
 -- A value of Q, with its octets.
-pub record Kept {A : Type 0} (m : Mode) (Q : Tree → A → Type 0) (t : Tree) (x : List ℕ × A) : Type 0 where
+pub record Kept {A : Type 0} (m : Mode) (Q : Tree → A → Type 0) (t : Tree) (x : List ℕ × A)
+    : Type 0 where
   pub spelled : Spells m t x.0
   pub is : Q t x.1

@@ -3,7 +3,7 @@ ghost use Rattle.std.specs.Prelude.{◌≡◌, ◌≤◌, [], length, IfOk, IfEr
 ghost use Rattle.bcder_content.specs.Captures.{rest_of, ReadsValues, ReadsPart, RefusesPart, ReadsFront, RefusesFront};
 ghost use Rattle.bcder_content.specs.Kept.{SpellsValues};
 ghost use Rattle.bcder_content.specs.Memory.{OnMemory, InErr};
-ghost use Rattle.bcder_content.specs.Ran.{Decoded, fresh};
+ghost use Rattle.bcder_content.specs.ClosureReads.{Decoded, fresh};
 
 use crate::bcder_source::{BytesSource, DecodeError, LimitedSource, Mode, Pos, SliceSource};
 use crate::constructed::Constructed;

@@ -5,9 +5,9 @@ ghost use Rattle.bcder_content.specs.bcder_source.Views.{left};
 ghost use Rattle.bcder_content.specs.bcder_source.declared.error.DecodeError.TheVariants.{Content as content_error};
 ghost use Rattle.bcder_content.specs.Contents.{octets, EndsHere, Unlike, Untold};
 ghost use Rattle.bcder_content.specs.Here.{here, start_of, SameFrame};
-ghost use Rattle.bcder_content.specs.Memory.{OnMemory, RanErr, PlainErr};
+ghost use Rattle.bcder_content.specs.Memory.{OnMemory, ClosureReadsErr, PlainErr};
 ghost use Rattle.bcder_content.specs.Openings.{OfTag};
-ghost use Rattle.bcder_content.specs.Ran.{Enters, NoneOf, Comes, Ran, RanOpt, PlainRan, PlainRanOpt};
+ghost use Rattle.bcder_content.specs.ClosureReads.{Enters, NoneOf, Comes, ClosureReads, ClosureReadsOpt, PlainClosureReads, PlainClosureReadsOpt};
 ghost use Rattle.bcder_content.specs.Stops.{NoneAhead, NamesTag, EndsUnread, LeftBy};
 
 use crate::bcder_source::{ContentError, DecodeError, Mode, Pos, Source, Tag};
@@ -259,13 +259,13 @@ impl<S: Source> Constructed<S> {
         F: FnOnce(&mut Constructed<S>) -> Result<T, DecodeError<S::Error>>,
     >(&mut self, tag: Tag, op: F) -> Result<T, DecodeError<S::Error>>
         requires { F.IsAlwaysCallable op }
-        ensures ran { Ran S.rest F.FnOnce op (here S.rest self.old) tag result
+        ensures ran { ClosureReads S.rest F.FnOnce op (here S.rest self.old) tag result
             (here S.rest self.new) }
         ensures frame { OnOk result (SameFrame self.old self.new) }
         ensures named { IfErr result (λ e. OnContent e (NamesTag (here S.rest self.old) tag e)) }
         ensures failed { OnErr result ((here S.rest self.new).failed ≡ true) }
         ensures memory { IfErr result
-            (λ e. OnMemory e (RanErr S.rest F.FnOnce op (here S.rest self.old) tag e)) }
+            (λ e. OnMemory e (ClosureReadsErr S.rest F.FnOnce op (here S.rest self.old) tag e)) }
     {
         let outer = match self.open_if(tag, true) {
             Ok(outer) => outer,
@@ -291,12 +291,12 @@ impl<S: Source> Constructed<S> {
         F: FnOnce(&mut Constructed<S>) -> Result<T, DecodeError<S::Error>>,
     >(&mut self, tag: Tag, op: F) -> Result<Option<T>, DecodeError<S::Error>>
         requires { F.IsAlwaysCallable op }
-        ensures ran { RanOpt S.rest F.FnOnce op (here S.rest self.old) tag result
+        ensures ran { ClosureReadsOpt S.rest F.FnOnce op (here S.rest self.old) tag result
             (here S.rest self.new) }
         ensures frame { OnOk result (SameFrame self.old self.new) }
         ensures failed { OnErr result ((here S.rest self.new).failed ≡ true) }
         ensures memory { IfErr result
-            (λ e. OnMemory e (RanErr S.rest F.FnOnce op (here S.rest self.old) tag e)) }
+            (λ e. OnMemory e (ClosureReadsErr S.rest F.FnOnce op (here S.rest self.old) tag e)) }
     {
         match self.comes(tag) {
             Ok(true) => {}
@@ -316,7 +316,7 @@ impl<S: Source> Constructed<S> {
         F: FnOnce(&mut Primitive<S>) -> Result<T, DecodeError<S::Error>>,
     >(&mut self, tag: Tag, op: F) -> Result<T, DecodeError<S::Error>>
         requires { F.IsAlwaysCallable op }
-        ensures ran { PlainRan S.rest F.FnOnce op (here S.rest self.old) tag result
+        ensures ran { PlainClosureReads S.rest F.FnOnce op (here S.rest self.old) tag result
             (here S.rest self.new) }
         ensures frame { OnOk result (SameFrame self.old self.new) }
         ensures named { IfErr result (λ e. OnContent e (NamesTag (here S.rest self.old) tag e)) }
@@ -348,7 +348,7 @@ impl<S: Source> Constructed<S> {
         F: FnOnce(&mut Primitive<S>) -> Result<T, DecodeError<S::Error>>,
     >(&mut self, tag: Tag, op: F) -> Result<Option<T>, DecodeError<S::Error>>
         requires { F.IsAlwaysCallable op }
-        ensures ran { PlainRanOpt S.rest F.FnOnce op (here S.rest self.old) tag result
+        ensures ran { PlainClosureReadsOpt S.rest F.FnOnce op (here S.rest self.old) tag result
             (here S.rest self.new) }
         ensures frame { OnOk result (SameFrame self.old self.new) }
         ensures failed { OnErr result ((here S.rest self.new).failed ≡ true) }

@@ -2,7 +2,7 @@
 ghost use Rattle.std.specs.Prelude.{IfErr};
 ghost use Rattle.bcder_content.specs.bcder_tree.declared.mode.Mode.{Mode as ModeValue};
 ghost use Rattle.bcder_content.specs.Memory.{OnMemory, InErr};
-ghost use Rattle.bcder_content.specs.Ran.{Decoded, fresh};
+ghost use Rattle.bcder_content.specs.ClosureReads.{Decoded, fresh};
 
 use crate::bcder_source::{ContentError, DecodeError, IntoSource, LimitedSource, Mode, Source};
 use crate::constructed::Constructed;

@@ -10,7 +10,7 @@ ghost use Rattle.bcder_content.specs.bcder_tree.Tree.{Tree, Trees, constructed};
 ghost use Rattle.bcder_content.specs.bcder_tree.Front.{Front};
 ghost use Rattle.bcder_content.specs.bcder_source.Views.{left};
 ghost use Rattle.bcder_content.specs.Contents.{ValuesLeft, octets, Took, TookAll, Ahead, Ended, Whole};
-ghost use Rattle.bcder_content.specs.Ran.{Enters, Leaves};
+ghost use Rattle.bcder_content.specs.ClosureReads.{Enters, Leaves};
 ghost use Rattle.bcder_content.specs.declared.ending.Span.{Span};
 
 /// A value is next exactly where it stands in front of what may be read of a content that hasn't

@@ -6,8 +6,8 @@ ghost use Rattle.bcder_content.specs.bcder_tree.Tags.{boolean_tag, integer_tag, 
 ghost use Rattle.bcder_content.specs.Exact.{ReadsAs, ReadsOptAs};
 ghost use Rattle.bcder_content.specs.Grammar.{OctetsOf};
 ghost use Rattle.bcder_content.specs.Here.{here, SameFrame};
-ghost use Rattle.bcder_content.specs.Memory.{OnMemory, RanErr};
-ghost use Rattle.bcder_content.specs.Ran.{Ran, RanOpt};
+ghost use Rattle.bcder_content.specs.Memory.{OnMemory, ClosureReadsErr};
+ghost use Rattle.bcder_content.specs.ClosureReads.{ClosureReads, ClosureReadsOpt};
 ghost use Rattle.bcder_content.specs.Stops.{NamesTag};
 ghost use Rattle.bcder_primitive.specs.Values.{IsBoolean, IsNull, IsUnsigned, IsValue};
 
@@ -203,14 +203,15 @@ impl<S: Source> Constructed<S> {
         F: FnOnce(&mut Constructed<S>) -> Result<T, DecodeError<S::Error>>,
     >(&mut self, op: F) -> Result<T, DecodeError<S::Error>>
         requires { F.IsAlwaysCallable op }
-        ensures ran { Ran S.rest F.FnOnce op (here S.rest self.old) sequence_tag result
-            (here S.rest self.new) }
+        ensures ran { ClosureReads S.rest F.FnOnce op (here S.rest self.old) sequence_tag
+            result (here S.rest self.new) }
         ensures frame { OnOk result (SameFrame self.old self.new) }
         ensures named { IfErr result
             (λ e. OnContent e (NamesTag (here S.rest self.old) sequence_tag e)) }
         ensures failed { OnErr result ((here S.rest self.new).failed ≡ true) }
         ensures memory { IfErr result
-            (λ e. OnMemory e (RanErr S.rest F.FnOnce op (here S.rest self.old) sequence_tag e)) }
+            (λ e. OnMemory e (ClosureReadsErr S.rest F.FnOnce op
+            (here S.rest self.old) sequence_tag e)) }
     {
         self.take_constructed_if(Tag::SEQUENCE, op)
     }
@@ -221,12 +222,13 @@ impl<S: Source> Constructed<S> {
         F: FnOnce(&mut Constructed<S>) -> Result<T, DecodeError<S::Error>>,
     >(&mut self, op: F) -> Result<Option<T>, DecodeError<S::Error>>
         requires { F.IsAlwaysCallable op }
-        ensures ran { RanOpt S.rest F.FnOnce op (here S.rest self.old) sequence_tag result
-            (here S.rest self.new) }
+        ensures ran { ClosureReadsOpt S.rest F.FnOnce op (here S.rest self.old) sequence_tag
+            result (here S.rest self.new) }
         ensures frame { OnOk result (SameFrame self.old self.new) }
         ensures failed { OnErr result ((here S.rest self.new).failed ≡ true) }
         ensures memory { IfErr result
-            (λ e. OnMemory e (RanErr S.rest F.FnOnce op (here S.rest self.old) sequence_tag e)) }
+            (λ e. OnMemory e (ClosureReadsErr S.rest F.FnOnce op
+            (here S.rest self.old) sequence_tag e)) }
     {
         self.take_opt_constructed_if(Tag::SEQUENCE, op)
     }
@@ -237,14 +239,15 @@ impl<S: Source> Constructed<S> {
         op: F,
     ) -> Result<T, DecodeError<S::Error>>
         requires { F.IsAlwaysCallable op }
-        ensures ran { Ran S.rest F.FnOnce op (here S.rest self.old) set_tag result
-            (here S.rest self.new) }
+        ensures ran { ClosureReads S.rest F.FnOnce op (here S.rest self.old) set_tag
+            result (here S.rest self.new) }
         ensures frame { OnOk result (SameFrame self.old self.new) }
         ensures named { IfErr result
             (λ e. OnContent e (NamesTag (here S.rest self.old) set_tag e)) }
         ensures failed { OnErr result ((here S.rest self.new).failed ≡ true) }
         ensures memory { IfErr result
-            (λ e. OnMemory e (RanErr S.rest F.FnOnce op (here S.rest self.old) set_tag e)) }
+            (λ e. OnMemory e (ClosureReadsErr S.rest F.FnOnce op
+            (here S.rest self.old) set_tag e)) }
     {
         self.take_constructed_if(Tag::SET, op)
     }
@@ -255,12 +258,13 @@ impl<S: Source> Constructed<S> {
         F: FnOnce(&mut Constructed<S>) -> Result<T, DecodeError<S::Error>>,
     >(&mut self, op: F) -> Result<Option<T>, DecodeError<S::Error>>
         requires { F.IsAlwaysCallable op }
-        ensures ran { RanOpt S.rest F.FnOnce op (here S.rest self.old) set_tag result
-            (here S.rest self.new) }
+        ensures ran { ClosureReadsOpt S.rest F.FnOnce op (here S.rest self.old) set_tag
+            result (here S.rest self.new) }
         ensures frame { OnOk result (SameFrame self.old self.new) }
         ensures failed { OnErr result ((here S.rest self.new).failed ≡ true) }
         ensures memory { IfErr result
-            (λ e. OnMemory e (RanErr S.rest F.FnOnce op (here S.rest self.old) set_tag e)) }
+            (λ e. OnMemory e (ClosureReadsErr S.rest F.FnOnce op
+            (here S.rest self.old) set_tag e)) }
     {
         self.take_opt_constructed_if(Tag::SET, op)
     }

@@ -24,10 +24,13 @@ abbrev pub Lent : Type 0
 Lent = (TagValue × (TagValue × (TagValue × (TagValue × TagValue)))) × Fields
 
 abbrev pub lent : Lent → Form Fields
-lent l = wrapped l.0.0 (both (oid_at l.0.1.0) (both (natural_at l.0.1.1.0) (both (bits_at l.0.1.1.1.0) (last (octets_at l.0.1.1.1.1)))))
+lent l = wrapped l.0.0 (both (oid_at l.0.1.0) (both (natural_at l.0.1.1.0)
+    (both (bits_at l.0.1.1.1.0) (last (octets_at l.0.1.1.1.1)))))
 
-abbrev pub lends : TagValue → TagValue × List ℕ → TagValue × ℕ → TagValue × BitsValue → TagValue × List ℕ → Lent
+abbrev pub lends : TagValue → TagValue × List ℕ → TagValue × ℕ → TagValue × BitsValue → TagValue
+    × List ℕ → Lent
 lends t a b d e = ((t, (a.0, (b.0, (d.0, e.0)))), (a.1, (b.1, (d.1, (e.1, tt)))))
 
 abbrev pub notice_lends : Notice → Lent
-notice_lends n = lends sequence_tag (oid_tag, n.id.0) (integer_tag, n.serial) (universal 3, n.flags) (octet_string_tag, n.note)
+notice_lends n = lends sequence_tag (oid_tag, n.id.0) (integer_tag, n.serial)
+    (universal 3, n.flags) (octet_string_tag, n.note)

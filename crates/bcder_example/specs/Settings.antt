@@ -3,7 +3,7 @@ use Rattle.std.specs.Prelude.{◌≡◌, ℕ}
 use Rattle.bcder_example.specs.bcder_tree.declared.mode.Mode.{Mode}
 use Rattle.bcder_example.specs.bcder_tree.Tags.{integer_tag}
 use Rattle.bcder_example.specs.bcder_tree.Tree.{Trees}
-use Rattle.bcder_example.specs.bcder_content.Grammar.{Such, Rest, Then, Default}
+use Rattle.bcder_example.specs.bcder_content.Grammar.{Where, Rest, Then, Default}
 use Rattle.bcder_example.specs.declared.settings.Settings.{Settings}
 use Rattle.bcder_example.specs.Versions.{IsSmall, Numbers}
 
@@ -15,4 +15,4 @@ abbrev pub IsZero : ℕ → Type 0
 IsZero n = n ≡ 0
 
 abbrev pub IsSettingsBody : Mode → Trees → Numbers → Type 0
-IsSettingsBody m = Then (Such IsSmall IsZero) (Default integer_tag IsSmall 3 Rest)
+IsSettingsBody m = Then (Where IsSmall IsZero) (Default integer_tag IsSmall 3 Rest)

@@ -54,10 +54,13 @@ abbrev pub Lent : Type 0
 Lent = (TagValue × (TagValue × (TagValue × TagValue))) × Fields
 
 abbrev pub lent : Lent → Form Fields
-lent l = wrapped l.0.0 (both (kept body) (both (explicit l.0.1.0 (oid_at l.0.1.1.0)) (last (bits_at l.0.1.1.1))))
+lent l = wrapped l.0.0 (both (kept body) (both (explicit l.0.1.0 (oid_at l.0.1.1.0))
+    (last (bits_at l.0.1.1.1))))
 
-abbrev pub lends : TagValue → CapturedValue × BodyFields → TagValue → TagValue × List ℕ → TagValue × BitsValue → Lent
+abbrev pub lends : TagValue → CapturedValue × BodyFields → TagValue → TagValue × List ℕ → TagValue
+    × BitsValue → Lent
 lends t k a i b = ((t, (a, (i.0, b.0))), (k, (i.1, (b.1, tt))))
 
 abbrev pub signed_lends : Signed → Lent
-signed_lends s = lends sequence_tag (kept_body (s.octets, s.body)) sequence_tag (oid_tag, s.algorithm.0) (universal 3, s.signature)
+signed_lends s = lends sequence_tag (kept_body (s.octets, s.body)) sequence_tag
+    (oid_tag, s.algorithm.0) (universal 3, s.signature)

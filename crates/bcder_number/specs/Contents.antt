@@ -17,14 +17,16 @@ within_steps (pos n) = omega arith
 within_steps (negsuc k) = omega arith
 
 signed : {content : List ℕ} {x : ℤ} → IsInteger content x → IsSigned (steps_of x + 1) content x
-signed {content} {x} is = record { octets = is.octets; shortest = is.shortest; value = is.value; within = within_steps x }
+signed {content} {x} is =
+    record { octets = is.octets; shortest = is.shortest; value = is.value; within = within_steps x }
 
 -- so it has one content.
 pub one_integer : (x : ℤ) (a b : List ℕ) → IsInteger a x → IsInteger b x → a ≡ b
 one_integer x a b s t = one_signed {bound = steps_of x + 1} x a b (signed s) (signed t)
 
 -- Octets are one number in two's complement.
-told_two : (content : List ℕ) (x : ℤ) → All (λ a. a < 256) content → IsTwosComplement content x → told content ≡ x
+told_two : (content : List ℕ) (x : ℤ) → All (λ a. a < 256) content → IsTwosComplement content x
+    → told content ≡ x
 told_two [] (pos n) all is = absurd is.0
 told_two [] (negsuc k) all is = absurd is.0
 told_two (a ∷ v) (pos n) all is = grind (arith, is.0, is.1)
@@ -37,25 +39,32 @@ pub one_number : (content : List ℕ) (x y : ℤ) → IsInteger content x → Is
 one_number content x y a b = sym (told_is content x a) ∙ told_is content y b
 
 -- As few octets as can be are the content of the number that they are.
-two_told : (content : List ℕ) → All (λ a. a < 256) content → IsShortest content → IsTwosComplement content (told content)
+two_told : (content : List ℕ) → All (λ a. a < 256) content → IsShortest content
+    → IsTwosComplement content (told content)
 two_told [] all shortest = absurd shortest
 two_told (a ∷ v) all shortest =
     elim (cases_lt a 128) [
       | inl l ↦
           let is : IsTwosComplement (a ∷ v) (pos (number_of (a ∷ v))) = (l, refl) in
-          subst (λ (x : ℤ). IsTwosComplement (a ∷ v) x) (sym (told_two (a ∷ v) (pos (number_of (a ∷ v))) all is)) is
+          subst (λ (x : ℤ). IsTwosComplement (a ∷ v) x)
+          (sym (told_two (a ∷ v) (pos (number_of (a ∷ v))) all is)) is
       | inr l ↦
           let k : ℕ = 256 ^ length (a ∷ v) - number_of (a ∷ v) - 1 in
-          let high : number_behind 0 (a ∷ v) + 1 ≤ (0 + 1) * 256 ^ length (a ∷ v) = number_high 0 (a ∷ v) all in
+          let high : number_behind 0 (a ∷ v) + 1 ≤ (0 + 1) * 256 ^ length (a ∷ v) =
+          number_high 0 (a ∷ v) all in
           let is : IsTwosComplement (a ∷ v) (negsuc k) = (l, omega arith) in
-          subst (λ (x : ℤ). IsTwosComplement (a ∷ v) x) (sym (told_two (a ∷ v) (negsuc k) all is)) is
+          subst (λ (x : ℤ). IsTwosComplement (a ∷ v) x)
+          (sym (told_two (a ∷ v) (negsuc k) all is)) is
     ]
 
-pub integer_told : (content : List ℕ) → All (λ a. a < 256) content → IsShortest content → IsInteger content (told content)
-integer_told content all shortest = record { octets = all; shortest = shortest; value = two_told content all shortest }
+pub integer_told : (content : List ℕ) → All (λ a. a < 256) content → IsShortest content
+    → IsInteger content (told content)
+integer_told content all shortest =
+    record { octets = all; shortest = shortest; value = two_told content all shortest }
 
 -- One octet more.
-behind_more : (p : ℕ) (v : List ℕ) (r : ℕ) → number_behind p (v ++ r ∷ []) ≡ number_behind p v * 256 + r
+behind_more : (p : ℕ) (v : List ℕ) (r : ℕ)
+    → number_behind p (v ++ r ∷ []) ≡ number_behind p v * 256 + r
 behind_more p [] r = refl
 behind_more p (a ∷ v) r = behind_more (p * 256 + a) v r
 
@@ -67,7 +76,9 @@ negative_more : (v w : List ℕ) → IsNegative v → IsNegative (v ++ w)
 negative_more [] w h = absurd h
 negative_more (a ∷ v) w h = h
 
-shortest_more : (v : List ℕ) (r : ℕ) → IsShortest v → ((a : ℕ) → v ≡ a ∷ [] → ((a ≡ 0) → 128 ≤ r) × ((a ≡ 255) → r < 128)) → IsShortest (v ++ r ∷ [])
+shortest_more : (v : List ℕ) (r : ℕ) → IsShortest v
+    → ((a : ℕ) → v ≡ a ∷ [] → ((a ≡ 0) → 128 ≤ r) × ((a ≡ 255) → r < 128))
+    → IsShortest (v ++ r ∷ [])
 shortest_more [] r shortest one = absurd shortest
 shortest_more (a ∷ []) r shortest one = one a refl
 shortest_more (a ∷ b ∷ v) r shortest one = shortest
@@ -79,10 +90,15 @@ single r low = All-cons (λ a. a < 256) r [] low (All-nil (λ a. a < 256))
 abbrev Has : ℕ → ℤ → Type 0
 Has most x = (v : List ℕ) × IsInteger v x × (length v ≤ most)
 
-more : (v : List ℕ) (q x : ℤ) (r most : ℕ) → IsInteger v q → length v ≤ most → r < 256 → IsShortest (v ++ r ∷ []) → IsTwosComplement (v ++ r ∷ []) x → Has (suc most) x
+more : (v : List ℕ) (q x : ℤ) (r most : ℕ) → IsInteger v q → length v ≤ most → r < 256
+    → IsShortest (v ++ r ∷ []) → IsTwosComplement (v ++ r ∷ []) x → Has (suc most) x
 more v q x r most is few low shortest value = (
   v ++ r ∷ [],
-  record { octets = All-append (λ a. a < 256) v (r ∷ []) is.octets (single r low); shortest = shortest; value = value },
+  record {
+    octets = All-append (λ a. a < 256) v (r ∷ []) is.octets (single r low);
+    shortest = shortest;
+    value = value;
+  },
   omega (arith, length-append v (r ∷ [])),
 )
 
@@ -95,12 +111,14 @@ more_pos k n high h =
     let place : 256 ^ 0 ≤ 256 ^ k = further 0 k (omega arith) in
     more v (pos (n / 256)) (pos n) (n % 256) (suc k) is h.2 (omega arith)
     (shortest_more v (n % 256) is.shortest (λ a one. (
-      λ zero_first. let f : number_of v ≡ 0 * 256 + a = ap number_of one in omega (arith, is.value.1),
+      λ zero_first. let f : number_of v ≡ 0 * 256 + a =
+          ap number_of one in omega (arith, is.value.1),
       λ ones_first. absurd (let p : IsPositive (a ∷ []) = subst IsPositive one is.value.0 in omega arith),
     )))
     (positive_more v (n % 256 ∷ []) is.value.0, omega (arith, e, is.value.1))
 
-more_neg : (k n : ℕ) → 128 * 256 ^ k ≤ n → Has (suc k) (negsuc (n / 256)) → Has (suc (suc k)) (negsuc n)
+more_neg : (k n : ℕ) → 128 * 256 ^ k ≤ n → Has (suc k) (negsuc (n / 256))
+    → Has (suc (suc k)) (negsuc n)
 more_neg k n high h =
     let v = h.0 in
     let is : IsInteger v (negsuc (n / 256)) = h.1 in
@@ -116,12 +134,30 @@ more_neg k n high h =
           let l : length v ≡ 1 = ap length one in
           let w : 256 ^ length v ≡ 256 ^ 1 = ap (λ (z : ℕ). 256 ^ z) l in
           omega (arith, is.value.1),
-    )))
-    (negative_more v (r ∷ []) is.value.0, omega (arith, e, is.value.1, ap (λ (z : ℕ). 256 ^ z) long, pow-succ' 256 (length v)))
+    ))) (
+      negative_more v (r ∷ []) is.value.0,
+      omega (arith, e, is.value.1, ap (λ (z : ℕ). 256 ^ z) long, pow-succ' 256 (length v)),
+    )
 
 has_below : (k : ℕ) (x : ℤ) → steps_of x < 128 * 256 ^ k → Has (suc k) x
-has_below zero (pos n) low = (n ∷ [], record { octets = single _ (omega arith); shortest = tt; value = (omega arith, omega arith) }, omega arith)
-has_below zero (negsuc n) low = ((255 - n) ∷ [], record { octets = single _ (omega arith); shortest = tt; value = (omega arith, omega arith) }, omega arith)
+has_below zero (pos n) low = (
+  n ∷ [],
+  record {
+    octets = single _ (omega arith);
+    shortest = tt;
+    value = (omega arith, omega arith);
+  },
+  omega arith,
+)
+has_below zero (negsuc n) low = (
+  (255 - n) ∷ [],
+  record {
+    octets = single _ (omega arith);
+    shortest = tt;
+    value = (omega arith, omega arith);
+  },
+  omega arith,
+)
 has_below (suc k) (pos n) low =
     elim (cases_lt n (128 * 256 ^ k)) [
       | inl l ↦ let h = has_below k (pos n) l in (h.0, h.1, omega (arith, h.2))
@@ -152,14 +188,19 @@ few_of k x low =
     omega (arith, ap length (one_integer x (content x) h.0 (content_is x) h.1), h.2)
 
 -- Longer contents are of numbers that are further away.
-pub further_away : (a b : List ℕ) (x y : ℤ) → IsInteger a x → IsInteger b y → length a < length b → steps_of x < steps_of y
+pub further_away : (a b : List ℕ) (x y : ℤ) → IsInteger a x → IsInteger b y → length a < length b
+    → steps_of x < steps_of y
 further_away [] b x y s t h = absurd s.shortest
 further_away (a ∷ v) b x y s t h =
     elim (cases_lt (steps_of x) (steps_of y)) [
       | inl l ↦ l
       | inr r ↦
           let low = near a v x s.octets s.value in
-          absurd (omega (arith, few_of (length v) y (omega (arith, low)), ap length (one_integer y b (content y) t (content_is y))))
+          absurd (omega (
+            arith,
+            few_of (length v) y (omega (arith, low)),
+            ap length (one_integer y b (content y) t (content_is y)),
+          ))
     ]
 
 -- A number from -2^128 up and below 2^128 has at most seventeen octets.

@@ -3,34 +3,16 @@
 ghost use Rattle.std.specs.Prelude.{◌≡◌, ◌↔◌, ◌^◌, ◌<◌, ℕ, ℤ, [], ◌∷◌, IsTrue, IfSome, IfNone};
 ghost use Rattle.std.specs.Ordering.{int_cmp};
 ghost use Rattle.bcder_number.specs.bcder_tree.declared.mode.Mode.TheVariants.{Der};
-ghost use Rattle.bcder_number.specs.bcder_tree.Integers.{number_of, IsShortest};
+ghost use Rattle.bcder_number.specs.bcder_tree.Integers.{number_of};
 ghost use Rattle.bcder_number.specs.bcder_primitive.Plain.{plain};
 ghost use Rattle.bcder_number.specs.bcder_primitive.Sliced.{content_of as whole_content};
 ghost use Rattle.bcder_number.specs.bcder_primitive.Values.{IsSigned, IsUnsigned, IsNegative};
 ghost use Rattle.bcder_number.specs.Integers.{IsInteger, IsNatural, told};
 
 use crate::bcder_primitive::Primitive;
+use crate::bcder_primitive::integers::is_shortest;
 use crate::bcder_source::{LimitedSource, Mode, SliceSource, Source};
 use std::cmp::Ordering;
-
-// Whether octets are some, and of several the first nine bits aren't all alike (8.3.1, 8.3.2).
-fn is_shortest(octets: &[u8]) -> bool
-    ensures { IsTrue result ↔ IsShortest octets.now }
-{
-    match octets {
-        [] => false,
-        [_] => true,
-        [first, second, ..] => {
-            if *first == 0 {
-                return *second >= 128;
-            }
-            if *first == 255 {
-                return *second < 128;
-            }
-            true
-        }
-    }
-}
 
 /// Whether octets are the content of an INTEGER.
 pub(crate) fn is_integer(octets: &[u8]) -> bool

@@ -17,7 +17,7 @@ use Rattle.bcder_octets.specs.bcder_content.declared.content.Content.{Content}
 use Rattle.bcder_octets.specs.bcder_content.Contents.{ValuesLeft, tag_of}
 use Rattle.bcder_octets.specs.bcder_content.Exact.{ReadsAllAs}
 use Rattle.bcder_octets.specs.bcder_content.Here.{here, plain}
-use Rattle.bcder_octets.specs.bcder_content.Ran.{Reader}
+use Rattle.bcder_octets.specs.bcder_content.ClosureReads.{Reader}
 use Rattle.bcder_octets.specs.bcder_content.Either.{SameContent, left_of, form_in, Shows, ReadsInAs, ReadsContentAs, OctetsRun, RunsOctets, ValuesRun, RunsValues}
 use Rattle.bcder_octets.specs.bcder_content.Tagged.{ReadsTagged}
 use Rattle.bcder_octets.proofs.of_bcder_content.Failing.{refused_still}

@@ -19,7 +19,7 @@ use Rattle.bcder_octets.specs.bcder_content.Either.{Meeting, ValuesRun, RunsValu
 use Rattle.bcder_octets.specs.bcder_content.Grammar.{OctetsOf}
 use Rattle.bcder_octets.specs.bcder_content.Here.{here}
 use Rattle.bcder_octets.specs.bcder_content.Memory.{OnMemory, TaggedErr}
-use Rattle.bcder_octets.specs.bcder_content.Ran.{Reader, Enters}
+use Rattle.bcder_octets.specs.bcder_content.ClosureReads.{Reader, Enters}
 use Rattle.bcder_values.specs.bcder_content.Ahead.{HasOctets, HasNext, HasPrimitive}
 use Rattle.bcder_values.proofs.of_bcder_content.Wants.{next_of}
 use Rattle.bcder_octets.specs.Parts.{IsWhole}

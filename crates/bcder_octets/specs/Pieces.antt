@@ -24,8 +24,11 @@ pub data Mark : Type 0 where
 
 abbrev pub Marks : List Mark → List ℕ → Type 0
 Marks [] octets = octets ≡ []
-Marks (holds content ∷ marks) octets = (header : List ℕ) × (rest : List ℕ) × (octets ≡ header ++ (content ++ rest)) × ((t : TagValue) × IsHeader Ber header false t (length content)) × Marks marks rest
-Marks (around ∷ marks) octets = (text : List ℕ) × (rest : List ℕ) × (octets ≡ text ++ rest) × IsAround text × Marks marks rest
+Marks (holds content ∷ marks) octets =
+    (header : List ℕ) × (rest : List ℕ) × (octets ≡ header ++ (content ++ rest))
+    × ((t : TagValue) × IsHeader Ber header false t (length content)) × Marks marks rest
+Marks (around ∷ marks) octets =
+    (text : List ℕ) × (rest : List ℕ) × (octets ≡ text ++ rest) × IsAround text × Marks marks rest
 
 abbrev pub held : List Mark → List (List ℕ)
 held [] = []
@@ -59,7 +62,9 @@ IsShorter octets End = Unit {0}
 -- All of them are primitive OCTET STRINGs, with these contents.
 abbrev pub ArePlain : Trees → List (List ℕ) → Type 0
 ArePlain none pieces = pieces ≡ []
-ArePlain (more t ts) pieces = (content : List ℕ) × (others : List (List ℕ)) × (t ≡ primitive octet_string_tag content) × (pieces ≡ content ∷ others) × ArePlain ts others
+ArePlain (more t ts) pieces =
+    (content : List ℕ) × (others : List (List ℕ)) × (t ≡ primitive octet_string_tag content)
+    × (pieces ≡ content ∷ others) × ArePlain ts others
 
 -- Such a piece may come after one of so many octets: that has 1000, and this has 1 to 1000 (9.2).
 abbrev pub MayStand : ℕ → List ℕ → Type 0

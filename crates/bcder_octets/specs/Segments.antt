@@ -36,10 +36,12 @@ AreSegmentsOf octets = AreAll IsSegment (segments octets)
 abbrev pub WritesSegments : Mode → List ℕ → List ℕ → Type 0
 WritesSegments m octets = WritesAll (WritesSegment m) (segments octets)
 
-pub segments_spelled : (m : Mode) (octets text : List ℕ) → WritesSegments m octets text → SpellsSome m (AreSegmentsOf octets) text
+pub segments_spelled : (m : Mode) (octets text : List ℕ) → WritesSegments m octets text
+    → SpellsSome m (AreSegmentsOf octets) text
 segments_spelled m octets = all_spelled m (λ s. plain_spelled m) (segments octets)
 
-pub segments_one : (m : Mode) (octets a b : List ℕ) → WritesSegments m octets a → WritesSegments m octets b → a ≡ b
+pub segments_one : (m : Mode) (octets a b : List ℕ) → WritesSegments m octets a
+    → WritesSegments m octets b → a ≡ b
 segments_one m octets = all_one (λ s. plain_one m (one_string s)) (segments octets)
 
 -- Whether a string is written in segments: in CER, where it has more than 1000 octets.
@@ -64,17 +66,21 @@ StringTrees m tag octets = FormTrees (is_cut m octets) tag octets
 abbrev pub WritesString : Mode → TagValue → List ℕ → List ℕ → Type 0
 WritesString m tag octets = FormTexts (is_cut m octets) m tag octets
 
-form_spelled : (b : Bool) (m : Mode) (tag : TagValue) (octets text : List ℕ) → FormTexts b m tag octets text → SpellsSome m (FormTrees b tag octets) text
+form_spelled : (b : Bool) (m : Mode) (tag : TagValue) (octets text : List ℕ)
+    → FormTexts b m tag octets text → SpellsSome m (FormTrees b tag octets) text
 form_spelled false m tag octets text w = plain_spelled m text w
 form_spelled true m tag octets text w = wrapped_spelled m (segments_spelled m octets) text w
 
-form_one : (c : Bool) (m : Mode) (tag : TagValue) (octets a b : List ℕ) → FormTexts c m tag octets a → FormTexts c m tag octets b → a ≡ b
+form_one : (c : Bool) (m : Mode) (tag : TagValue) (octets a b : List ℕ) → FormTexts c m tag octets a
+    → FormTexts c m tag octets b → a ≡ b
 form_one false m tag octets a b = plain_one m (one_string octets) a b
 form_one true m tag octets a b = wrapped_one m (segments_one m octets) a b
 
 -- That what is written spells the string, and is always the same.
-pub string_spelled : (m : Mode) (tag : TagValue) (octets text : List ℕ) → WritesString m tag octets text → SpellsSome m (StringTrees m tag octets) text
+pub string_spelled : (m : Mode) (tag : TagValue) (octets text : List ℕ)
+    → WritesString m tag octets text → SpellsSome m (StringTrees m tag octets) text
 string_spelled m tag octets = form_spelled (is_cut m octets) m tag octets
 
-pub string_one : (m : Mode) (tag : TagValue) (octets a b : List ℕ) → WritesString m tag octets a → WritesString m tag octets b → a ≡ b
+pub string_one : (m : Mode) (tag : TagValue) (octets a b : List ℕ) → WritesString m tag octets a
+    → WritesString m tag octets b → a ≡ b
 string_one m tag octets = form_one (is_cut m octets) m tag octets

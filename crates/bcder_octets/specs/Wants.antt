@@ -8,7 +8,7 @@ use Rattle.bcder_octets.specs.bcder_content.Contents.{ValuesLeft}
 use Rattle.bcder_octets.specs.bcder_content.declared.content.Content.{Content}
 use Rattle.bcder_octets.specs.bcder_content.Either.{form_in, left_of}
 use Rattle.bcder_octets.specs.bcder_content.Grammar.{OctetsOf}
-use Rattle.bcder_octets.specs.bcder_content.Ran.{Enters}
+use Rattle.bcder_octets.specs.bcder_content.ClosureReads.{Enters}
 use Rattle.bcder_values.specs.bcder_content.Ahead.{HasPrimitive, HasNext}
 
 -- Content octets in a mode, and the string that they are.
@@ -23,4 +23,5 @@ pub data WantsString {S : Type 0} (P : Piece) (rest : S → List ℕ) (c : Conte
 -- On the next value, which has that tag.
 pub data WantsNext (P : Piece) (tag : TagValue) (old : ValuesLeft) : Type 0 where
   next_in_one : HasNext (OctetsOf tag (P old.mode)) old → WantsNext P tag old
-  next_in_parts : (span : Span) (inner : ValuesLeft) → Enters old true tag span inner → (old.mode ≡ Der → ⊥) → WantsNext P tag old
+  next_in_parts : (span : Span) (inner : ValuesLeft) → Enters old true tag span inner
+      → (old.mode ≡ Der → ⊥) → WantsNext P tag old

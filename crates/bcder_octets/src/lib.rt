@@ -32,6 +32,7 @@ pub use bcder_values::{
 };
 pub use encode::{OctetSliceEncoder, OctetStringEncoder};
 pub use iter::{OctetStringIter, OctetStringOctets};
+pub use pieces::next_piece;
 pub use source::OctetStringSource;
 pub use string::OctetString;
 pub use wrapping::WrappingOctetStringEncoder;

@@ -63,8 +63,9 @@ fn step<'a>(octets: &'a [u8]) -> Item<'a>
     }
 }
 
-// The octets of the first primitive value within octets of values, and what comes after it.
-fn next_piece<'a>(octets: &'a [u8]) -> Option<(&'a [u8], &'a [u8])>
+/// The octets of the first primitive value within octets of values, and what comes after it; nothing where they
+/// have none. Headers of constructed values, and end-of-contents, are passed over (X.690 8.1.5).
+pub fn next_piece<'a>(octets: &'a [u8]) -> Option<(&'a [u8], &'a [u8])>
     ensures found { IfSome result (λ r. (pieces : List (List ℕ)) → Holds pieces octets.now
         → NextPiece pieces r.0.now r.1.now) }
     ensures shorter { IfSome result (λ r. length r.1.now < length octets.now) }

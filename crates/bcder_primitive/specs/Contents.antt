@@ -14,7 +14,8 @@ NoContent m P errors.Write = ⊥
 NoContent m P errors.Memory = ⊥
 
 -- What a refusal left.
-abbrev pub ContentRefused : Mode → (List ℕ → Type 0) → Type 0 → Option (List ℕ) → Option (List ℕ) → EncodeError → Type 0
+abbrev pub ContentRefused : Mode → (List ℕ → Type 0) → Type 0 → Option (List ℕ) → Option (List ℕ)
+    → EncodeError → Type 0
 ContentRefused m P same old new errors.CerUnsupported = NoContent m P errors.CerUnsupported × same
 ContentRefused m P same old new errors.TooLong = NoContent m P errors.TooLong × same
 ContentRefused m P same old new errors.Write = TookFront P old new

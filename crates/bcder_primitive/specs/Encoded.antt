@@ -29,7 +29,8 @@ pub record IsPlain (tag : TagValue) (P : List ℕ → Type 0) (ts : Trees) : Typ
   pub is : P content
   pub whole : ts ≡ more (primitive tag content) none
 
-pub record WritesPlain (m : Mode) (tag : TagValue) (P : List ℕ → Type 0) (text : List ℕ) : Type 0 where
+pub record WritesPlain (m : Mode) (tag : TagValue) (P : List ℕ → Type 0) (text : List ℕ)
+    : Type 0 where
   pub content : List ℕ
   pub is : P content
   pub spelled : IsPrimitive (written_as m) text tag content
@@ -40,7 +41,8 @@ pub record IsWrapped (tag : TagValue) (P : Trees → Type 0) (ts : Trees) : Type
   pub is : P values
   pub whole : ts ≡ more (constructed tag values) none
 
-pub record WritesWrapped (m : Mode) (tag : TagValue) (P : List ℕ → Type 0) (text : List ℕ) : Type 0 where
+pub record WritesWrapped (m : Mode) (tag : TagValue) (P : List ℕ → Type 0) (text : List ℕ)
+    : Type 0 where
   pub content : List ℕ
   pub is : P content
   pub few : length content < 2 ^ 32

@@ -19,7 +19,8 @@ pub record IsHeaderIn (form : Bool) (t : TagValue) (n : ℕ) (text : List ℕ) :
   pub size_is : SpellsEverywhere (Definite n) size
 
 -- A header isn't written where four length octets can't tell the length, or the writer refused.
-abbrev pub HeaderRefused : Bool → TagValue → ℕ → Type 0 → Option (List ℕ) → Option (List ℕ) → EncodeError → Type 0
+abbrev pub HeaderRefused : Bool → TagValue → ℕ → Type 0 → Option (List ℕ) → Option (List ℕ)
+    → EncodeError → Type 0
 HeaderRefused form t n same old new errors.CerUnsupported = ⊥
 HeaderRefused form t n same old new errors.TooLong = (2 ^ 32 ≤ n) × same
 HeaderRefused form t n same old new errors.Write = TookFront (IsHeaderIn form t n) old new

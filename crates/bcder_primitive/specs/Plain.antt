@@ -19,7 +19,8 @@ pub record OctetsLeft : Type 0 where
 
 -- What is left of a primitive content, by the rest of its source.
 abbrev pub plain : {S : Type 0} → (S → List ℕ) → Primitive S → OctetsLeft
-plain rest p = record { mode = p.mode; failed = p.failed; rest = rest p.source.source; limit = p.source.limit }
+plain rest p =
+    record { mode = p.mode; failed = p.failed; rest = rest p.source.source; limit = p.source.limit }
 
 -- The octets of a primitive content.
 abbrev pub octets_in : OctetsLeft → View
@@ -48,17 +49,21 @@ pub record LacksOctets {A : Type 0} (P : List ℕ → A → Type 0) (old : Octet
   pub none : (text : List ℕ) (x : A) → P text x → WholeOctets old text → ⊥
 
 -- Octets of the grammar were read; where the content goes on after them, as a whole it isn't of the grammar.
-pub record GivesOctets {A : Type 0} (P : List ℕ → A → Type 0) (old : OctetsLeft) (x : A) (new : OctetsLeft) : Type 0 where
+pub record GivesOctets {A : Type 0} (P : List ℕ → A → Type 0) (old : OctetsLeft) (x : A)
+    (new : OctetsLeft) : Type 0 where
   pub text : List ℕ
   pub is : P text x
   pub goes : GoesBy old text new
   pub only : (Drained new → ⊥) → LacksOctets P old
 
 -- A reader of a whole primitive content, whose end is tested afterwards, by what its answer means.
-abbrev pub ReadsOctetsAs : {A B E : Type 0} → (A → B) → (List ℕ → B → Type 0) → OctetsLeft → Result A (DecodeError E) → OctetsLeft → Type 0
+abbrev pub ReadsOctetsAs : {A B E : Type 0} → (A → B) → (List ℕ → B → Type 0) → OctetsLeft
+    → Result A (DecodeError E) → OctetsLeft → Type 0
 ReadsOctetsAs f P old (Ok x) new = GivesOctets P old (f x) new
 ReadsOctetsAs f P old (Err e) new = OnContent e (LacksOctets P old)
 
 -- The refusal names the number that was expected, unless what is left of the content is no number of the grammar.
-abbrev pub NamesOther : {E : Type 0} → (List ℕ → ℕ → Type 0) → OctetsLeft → ℕ → DecodeError E → Type 0
-NamesOther P old n e = OnContent e (LacksOctets P old) ⊎ ((pos : Pos) × (e ≡ Content (ExpectedInteger n) pos))
+abbrev pub NamesOther : {E : Type 0} → (List ℕ → ℕ → Type 0) → OctetsLeft → ℕ → DecodeError E
+    → Type 0
+NamesOther P old n e =
+    OnContent e (LacksOctets P old) ⊎ ((pos : Pos) × (e ≡ Content (ExpectedInteger n) pos))

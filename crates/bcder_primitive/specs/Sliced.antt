@@ -14,10 +14,13 @@ Reader F V T E = Once F (MutBor V × Unit {0}) (Result T (DecodeError E) × (Mut
 
 -- A content of just these octets.
 abbrev pub content_of : Mode → List ℕ → OctetsLeft
-content_of m octets = record { mode = m; failed = false; rest = octets; limit = Some (length octets) }
+content_of m octets =
+    record { mode = m; failed = false; rest = octets; limit = Some (length octets) }
 
 -- The closure was given the content, and answered.
-pub record RanOnOctets {F S T E : Type 0} (rest : S → List ℕ) (g : Reader F (Primitive S) T E) (op : F) (given : OctetsLeft) (r : Result T (DecodeError E)) (end : OctetsLeft) : Type 0 where
+pub record ClosureReadsOnOctets {F S T E : Type 0} (rest : S → List ℕ)
+    (g : Reader F (Primitive S) T E) (op : F) (given : OctetsLeft) (r : Result T (DecodeError E))
+    (end : OctetsLeft) : Type 0 where
   pub begun : Primitive S
   pub left : Primitive S
   pub begins : plain rest begun ≡ given
@@ -25,14 +28,21 @@ pub record RanOnOctets {F S T E : Type 0} (rest : S → List ℕ) (g : Reader F 
   pub ends : plain rest left ≡ end
 
 -- Why a content was refused: the closure refused it, with that very error, or it left octets unread.
-pub data SliceRefused {F S T E : Type 0} (rest : S → List ℕ) (g : Reader F (Primitive S) T E) (op : F) (given : OctetsLeft) (e : DecodeError E) : Type 0 where
-  refused : (end : OctetsLeft) → RanOnOctets rest g op given (Err e) end → SliceRefused rest g op given e
-  goes_on : (end : OctetsLeft) (x : T) → RanOnOctets rest g op given (Ok x) end → (Drained end → ⊥) → OnlyOctets e (Unit {0}) → SliceRefused rest g op given e
+pub data SliceRefused {F S T E : Type 0} (rest : S → List ℕ) (g : Reader F (Primitive S) T E)
+    (op : F) (given : OctetsLeft) (e : DecodeError E) : Type 0 where
+  refused : (end : OctetsLeft) → ClosureReadsOnOctets rest g op given (Err e) end
+      → SliceRefused rest g op given e
+  goes_on : (end : OctetsLeft) (x : T) → ClosureReadsOnOctets rest g op given (Ok x) end
+      → (Drained end → ⊥) → OnlyOctets e (Unit {0}) → SliceRefused rest g op given e
 
-abbrev pub SliceCases : {F S T E : Type 0} → (S → List ℕ) → Reader F (Primitive S) T E → F → OctetsLeft → Result T (DecodeError E) → Type 0
-SliceCases {F} {S} {T} {E} rest g op given (Ok x) = (end : OctetsLeft) × RanOnOctets rest g op given (Ok x) end × Drained end
+abbrev pub SliceCases : {F S T E : Type 0} → (S → List ℕ) → Reader F (Primitive S) T E → F
+    → OctetsLeft → Result T (DecodeError E) → Type 0
+SliceCases {F} {S} {T} {E} rest g op given (Ok x) =
+    (end : OctetsLeft) × ClosureReadsOnOctets rest g op given (Ok x) end × Drained end
 SliceCases {F} {S} {T} {E} rest g op given (Err e) = SliceRefused rest g op given e
 
 -- The closure read the octets, all of them.
-pub record RanOnSlice {F S T E : Type 0} (rest : S → List ℕ) (g : Reader F (Primitive S) T E) (op : F) (given : OctetsLeft) (r : Result T (DecodeError E)) : Type 0 where
+pub record ClosureReadsOnSlice {F S T E : Type 0} (rest : S → List ℕ)
+    (g : Reader F (Primitive S) T E) (op : F) (given : OctetsLeft) (r : Result T (DecodeError E))
+    : Type 0 where
   pub cases : SliceCases rest g op given r

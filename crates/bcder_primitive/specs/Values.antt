@@ -36,7 +36,8 @@ IsNegative (a ∷ v) = 128 ≤ a
 -- 256 to the power of their count. (`negsuc k` is -1 - k.)
 abbrev pub IsTwosComplement : List ℕ → ℤ → Type 0
 IsTwosComplement content (pos n) = IsPositive content × (number_of content ≡ n)
-IsTwosComplement content (negsuc k) = IsNegative content × (number_of content + k + 1 ≡ 256 ^ length content)
+IsTwosComplement content (negsuc k) =
+    IsNegative content × (number_of content + k + 1 ≡ 256 ^ length content)
 
 -- From -bound up, and below bound.
 abbrev pub IsWithin : ℕ → ℤ → Type 0
@@ -51,7 +52,8 @@ pub record IsSigned (bound : ℕ) (content : List ℕ) (x : ℤ) : Type 0 where
   pub within : IsWithin bound x
 
 -- Content octets of that very value.
-pub record IsValue {A : Type 0} (P : List ℕ → A → Type 0) (value : A) (content : List ℕ) (x : Unit {0}) : Type 0 where
+pub record IsValue {A : Type 0} (P : List ℕ → A → Type 0) (value : A) (content : List ℕ)
+    (x : Unit {0}) : Type 0 where
   pub is : P content value
 
 -- Any content octets, as they are.

@@ -49,7 +49,8 @@ CannotWrite T P errors.Write = ⊥
 CannotWrite T P errors.Memory = ⊥
 
 -- What a refusal left: nothing was written, or the writer refused, and had taken a front of the text.
-abbrev pub WriteRefused : (Trees → Type 0) → (List ℕ → Type 0) → Type 0 → Option (List ℕ) → Option (List ℕ) → EncodeError → Type 0
+abbrev pub WriteRefused : (Trees → Type 0) → (List ℕ → Type 0) → Type 0 → Option (List ℕ)
+    → Option (List ℕ) → EncodeError → Type 0
 WriteRefused T P same old new errors.CerUnsupported = CannotWrite T P errors.CerUnsupported × same
 WriteRefused T P same old new errors.TooLong = CannotWrite T P errors.TooLong × same
 WriteRefused T P same old new errors.Write = TookFront P old new

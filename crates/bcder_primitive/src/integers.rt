@@ -3,8 +3,8 @@ ghost use Rattle.std.specs.Prelude.{◌≡◌, ◌↔◌, ◌+◌, ◌^◌, ◌<
 ghost use Rattle.bcder_primitive.specs.bcder_tree.Integers.{number_of, IsShortest};
 ghost use Rattle.bcder_primitive.specs.Values.{IsUnsigned, IsSigned};
 
-// Whether octets are some, and of several the first nine bits aren't all alike (8.3.1, 8.3.2).
-fn is_shortest(octets: &[u8]) -> bool
+/// Whether octets are some, and of several the first nine bits aren't all alike (8.3.1, 8.3.2).
+pub fn is_shortest(octets: &[u8]) -> bool
     ensures { IsTrue result ↔ IsShortest octets.now }
 {
     match octets {

@@ -1,8 +1,8 @@
 //! Contents of primitive values that are read, with BOOLEAN, NULL and INTEGER by their octets; and what is written in
-//! front of values and in them ([`written`]).
+//! front of values and in them ([`written`]). [`integers`] says which octets an INTEGER has.
 #![tactic(auto)]
 
-mod integers;
+pub mod integers;
 pub mod primitive;
 pub mod written;
 

@@ -5,7 +5,7 @@ ghost use Rattle.bcder_source.specs.Limits.{at_hand, HasAll};
 ghost use Rattle.bcder_source.specs.Views.{left, limited, Moved, NextOctet, octets_of};
 ghost use Rattle.bcder_source.specs.declared.error.DecodeError.TheVariants.{Content as content_error, Memory};
 ghost use Rattle.bcder_primitive.specs.Plain.{plain, octets_in, Drained, WholeOctets, ReadsOctetsAs, NamesOther};
-ghost use Rattle.bcder_primitive.specs.Sliced.{content_of, RanOnSlice};
+ghost use Rattle.bcder_primitive.specs.Sliced.{content_of, ClosureReadsOnSlice};
 ghost use Rattle.bcder_primitive.specs.Values.{IsBoolean, IsNull, IsUnsigned, IsSigned, IsValue, AnyOctets, Skipped};
 
 use crate::integers;
@@ -542,7 +542,8 @@ impl Primitive<()> {
         F: FnOnce(&mut Primitive<SliceSource<'a>>) -> Result<T, DecodeError<Infallible>>,
     >(octets: &'a [u8], mode: Mode, op: F) -> Result<T, DecodeError<Infallible>>
         requires { F.IsAlwaysCallable op }
-        ensures ran { RanOnSlice (λ s. s.rest) F.FnOnce op (content_of mode octets.now) result }
+        ensures ran { ClosureReadsOnSlice (λ s. s.rest) F.FnOnce op (content_of mode octets.now)
+            result }
     {
         let source = SliceSource::new(octets);
         let start = source.pos();

@@ -15,7 +15,8 @@ pub record Fields (m : Mode) (octets : List ℕ) (ts : Trees) : Type 0 where
   pub spelled : SpellsAll m ts octets
 
 -- A header of definite length, as many content octets as it says, and what comes after them.
-pub record Splits (m : Mode) (octets : List ℕ) (form : Bool) (t : TagValue) (content behind : List ℕ) : Type 0 where
+pub record Splits (m : Mode) (octets : List ℕ) (form : Bool) (t : TagValue)
+    (content behind : List ℕ) : Type 0 where
   pub header : List ℕ
   pub header_is : IsHeader m header form t (length content)
   pub whole : octets ≡ header ++ (content ++ behind)

@@ -15,15 +15,19 @@ abbrev pub IsHigh : List ℕ → ℕ → Type 0
 IsHigh [] n = ⊥
 IsHigh (b ∷ []) n = (31 ≤ b) × (b < 128) × (n ≡ b)
 IsHigh (b ∷ c ∷ []) n = (128 < b) × (b < 256) × (c < 128) × (n + 16384 ≡ b * 128 + c)
-IsHigh (b ∷ c ∷ d ∷ []) n = (128 < b) × (b < 256) × (128 ≤ c) × (c < 256) × (d < 128) × (n + 2113536 ≡ b * 16384 + c * 128 + d)
+IsHigh (b ∷ c ∷ d ∷ []) n =
+    (128 < b) × (b < 256) × (128 ≤ c) × (c < 256) × (d < 128)
+    × (n + 2113536 ≡ b * 16384 + c * 128 + d)
 IsHigh (b ∷ c ∷ d ∷ e ∷ _) n = ⊥
 
 -- The identifier octets of a tag, `constructed` telling the form: the class in bits 8 and 7 of the first octet; a
 -- number to 30 in its bits 5 to 1, and after five set bits a higher one (8.1.2.2 to 8.1.2.5).
 abbrev pub IsIdentifier : List ℕ → Bool → TagValue → Type 0
 IsIdentifier [] constructed t = ⊥
-IsIdentifier (a ∷ []) constructed t = (a ≡ t.class * 64 + form_bit constructed + t.number) × (t.number < 31)
-IsIdentifier (a ∷ b ∷ i) constructed t = (a ≡ t.class * 64 + form_bit constructed + 31) × IsHigh (b ∷ i) t.number
+IsIdentifier (a ∷ []) constructed t =
+    (a ≡ t.class * 64 + form_bit constructed + t.number) × (t.number < 31)
+IsIdentifier (a ∷ b ∷ i) constructed t =
+    (a ≡ t.class * 64 + form_bit constructed + 31) × IsHigh (b ∷ i) t.number
 
 -- In CER and DER a length is spelled in the fewest octets (9.1, 10.1): with so many, only from `low` on.
 abbrev pub Shortest : Mode → ℕ → ℕ → Type 0
@@ -36,7 +40,12 @@ abbrev pub IsLength : Mode → List ℕ → ℕ → Type 0
 IsLength m [] n = ⊥
 IsLength m (a ∷ []) n = (a < 128) × (n ≡ a)
 IsLength m (a ∷ b ∷ []) n = (a ≡ 129) × (b < 256) × (n ≡ b) × Shortest m 128 n
-IsLength m (a ∷ b ∷ c ∷ []) n = (a ≡ 130) × (b < 256) × (c < 256) × (n ≡ b * 256 + c) × Shortest m 256 n
-IsLength m (a ∷ b ∷ c ∷ d ∷ []) n = (a ≡ 131) × (b < 256) × (c < 256) × (d < 256) × (n ≡ b * 65536 + c * 256 + d) × Shortest m 65536 n
-IsLength m (a ∷ b ∷ c ∷ d ∷ e ∷ []) n = (a ≡ 132) × (b < 256) × (c < 256) × (d < 256) × (e < 256) × (n ≡ b * 16777216 + c * 65536 + d * 256 + e) × Shortest m 16777216 n
+IsLength m (a ∷ b ∷ c ∷ []) n =
+    (a ≡ 130) × (b < 256) × (c < 256) × (n ≡ b * 256 + c) × Shortest m 256 n
+IsLength m (a ∷ b ∷ c ∷ d ∷ []) n =
+    (a ≡ 131) × (b < 256) × (c < 256) × (d < 256) × (n ≡ b * 65536 + c * 256 + d)
+    × Shortest m 65536 n
+IsLength m (a ∷ b ∷ c ∷ d ∷ e ∷ []) n =
+    (a ≡ 132) × (b < 256) × (c < 256) × (d < 256) × (e < 256)
+    × (n ≡ b * 16777216 + c * 65536 + d * 256 + e) × Shortest m 16777216 n
 IsLength m (a ∷ b ∷ c ∷ d ∷ e ∷ f ∷ _) n = ⊥

@@ -15,18 +15,24 @@ abbrev mutual
 
   pub AreSegments : Trees → List ℕ → Type 0
   AreSegments none octets = octets ≡ []
-  AreSegments (more t ts) octets = (a : List ℕ) × (b : List ℕ) × IsBerString octet_string_tag t a × AreSegments ts b × (octets ≡ a ++ b)
+  AreSegments (more t ts) octets =
+      (a : List ℕ) × (b : List ℕ) × IsBerString octet_string_tag t a × AreSegments ts b
+      × (octets ≡ a ++ b)
 
 -- CER: primitive segments of 1000 octets, and a last one of 1 to 1000 (9.2).
 abbrev pub AreCerSegments : Trees → List ℕ → Type 0
 AreCerSegments none octets = ⊥
-AreCerSegments (more t none) octets = (t ≡ primitive octet_string_tag octets) × (1 ≤ length octets) × (length octets ≤ 1000)
-AreCerSegments (more t (more u ts)) octets = (a : List ℕ) × (b : List ℕ) × (t ≡ primitive octet_string_tag a) × (length a ≡ 1000) × AreCerSegments (more u ts) b × (octets ≡ a ++ b)
+AreCerSegments (more t none) octets =
+    (t ≡ primitive octet_string_tag octets) × (1 ≤ length octets) × (length octets ≤ 1000)
+AreCerSegments (more t (more u ts)) octets =
+    (a : List ℕ) × (b : List ℕ) × (t ≡ primitive octet_string_tag a) × (length a ≡ 1000)
+    × AreCerSegments (more u ts) b × (octets ≡ a ++ b)
 
 -- CER: primitive to 1000 octets, else in segments (9.2).
 abbrev pub IsCerString : TagValue → Tree → List ℕ → Type 0
 IsCerString tag (primitive t v) octets = (t ≡ tag) × (v ≡ octets) × (length v ≤ 1000)
-IsCerString tag (constructed t ts) octets = (t ≡ tag) × AreCerSegments ts octets × (1000 < length octets)
+IsCerString tag (constructed t ts) octets =
+    (t ≡ tag) × AreCerSegments ts octets × (1000 < length octets)
 
 -- The octets of a string with that tag, its own or an implicit one; in DER it is primitive (10.2).
 abbrev pub IsString : Mode → TagValue → Tree → List ℕ → Type 0

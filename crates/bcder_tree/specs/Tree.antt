@@ -45,16 +45,20 @@ pub record IsPrimitive (m : Mode) (octets : List ℕ) (t : TagValue) (content : 
 -- The octets are a constructed value with these content octets: after a definite length, or between `80` and `00 00`
 -- (8.1.1.3, 8.1.3.6, 8.1.5).
 pub data IsConstructed (m : Mode) (octets : List ℕ) (t : TagValue) (content : List ℕ) : Type 0 where
-  definite : HasDefinite m → (header : List ℕ) → IsHeader m header true t (length content) → octets ≡ header ++ content → IsConstructed m octets t content
-  indefinite : HasIndefinite m → (identifier : List ℕ) → IsTag t → IsIdentifier identifier true t → octets ≡ identifier ++ (128 ∷ content ++ (0 ∷ 0 ∷ [])) → IsConstructed m octets t content
+  definite : HasDefinite m → (header : List ℕ) → IsHeader m header true t (length content)
+      → octets ≡ header ++ content → IsConstructed m octets t content
+  indefinite : HasIndefinite m → (identifier : List ℕ) → IsTag t → IsIdentifier identifier true t
+      → octets ≡ identifier ++ (128 ∷ content ++ (0 ∷ 0 ∷ [])) → IsConstructed m octets t content
 
 abbrev mutual
   -- The octets spell the tree.
   pub Spells : Mode → Tree → List ℕ → Type 0
   Spells m (primitive t content) octets = IsPrimitive m octets t content
-  Spells m (constructed t ts) octets = (content : List ℕ) × IsConstructed m octets t content × SpellsAll m ts content
+  Spells m (constructed t ts) octets =
+      (content : List ℕ) × IsConstructed m octets t content × SpellsAll m ts content
 
   -- The octets spell the trees, one after the other.
   pub SpellsAll : Mode → Trees → List ℕ → Type 0
   SpellsAll m none octets = octets ≡ []
-  SpellsAll m (more t ts) octets = (a : List ℕ) × (b : List ℕ) × Spells m t a × SpellsAll m ts b × (octets ≡ a ++ b)
+  SpellsAll m (more t ts) octets =
+      (a : List ℕ) × (b : List ℕ) × Spells m t a × SpellsAll m ts b × (octets ≡ a ++ b)

@@ -6,7 +6,7 @@ use Rattle.bcder_values.specs.bcder_tree.Tree.{Trees, SpellsAll}
 use Rattle.bcder_values.proofs.of_bcder_tree.Canonical.{one_spellings}
 use Rattle.bcder_values.specs.bcder_source.Views.{Moved}
 use Rattle.bcder_content.specs.Contents.{Whole, TookAll, octets}
-use Rattle.bcder_content.specs.Ran.{fresh}
+use Rattle.bcder_content.specs.ClosureReads.{fresh}
 use Rattle.bcder_values.specs.bcder_primitive.Encoded.{SpellsSome}
 use Rattle.bcder_values.specs.Returns.{ReadAgain, WrittenAlone}
 

@@ -22,16 +22,21 @@ pub record CapturedText (c : CapturedValue) (m : Mode) (text : List ℕ) : Type 
   pub values : SpellsValues c.mode c.octets
   pub whole : text ≡ c.octets
 
-pub stands_spelled : (n m : Mode) (ts : Trees) (text : List ℕ) → StandsIn n m → SpellsAll n ts text → SpellsAll m ts text
-stands_spelled n m ts text (inl e) s = subst (λ (k : Mode). SpellsAll k ts text) (sym e) (all_to_ber n ts text s)
+pub stands_spelled : (n m : Mode) (ts : Trees) (text : List ℕ) → StandsIn n m → SpellsAll n ts text
+    → SpellsAll m ts text
+stands_spelled n m ts text (inl e) s =
+    subst (λ (k : Mode). SpellsAll k ts text) (sym e) (all_to_ber n ts text s)
 stands_spelled n m ts text (inr e) s = subst (λ (k : Mode). SpellsAll k ts text) e s
 
-pub captured_spelled : (c : CapturedValue) (m : Mode) (text : List ℕ) → CapturedText c m text → SpellsSome m (CapturedTrees c m) text
+pub captured_spelled : (c : CapturedValue) (m : Mode) (text : List ℕ) → CapturedText c m text
+    → SpellsSome m (CapturedTrees c m) text
 captured_spelled c m text w = record {
   trees = w.values.trees;
   is = record { stands = w.stands; spelled = w.values.spelled };
-  spelled = subst (SpellsAll m w.values.trees) (sym w.whole) (stands_spelled c.mode m w.values.trees c.octets w.stands w.values.spelled);
+  spelled = subst (SpellsAll m w.values.trees) (sym w.whole)
+      (stands_spelled c.mode m w.values.trees c.octets w.stands w.values.spelled);
 }
 
-pub captured_one : (c : CapturedValue) (m : Mode) (a b : List ℕ) → CapturedText c m a → CapturedText c m b → a ≡ b
+pub captured_one : (c : CapturedValue) (m : Mode) (a b : List ℕ) → CapturedText c m a
+    → CapturedText c m b → a ≡ b
 captured_one c m a b v w = v.whole ∙ sym w.whole

@@ -28,27 +28,39 @@ module _ {A B : Type 0} (f : Form A) (g : Form B) where
   choice_again m (inl x) = inl (f.again m x)
   choice_again m (inr y) = inr (g.again m y)
 
-  pub choice_spelled : (x : A ⊎ B) (m : Mode) (text : List ℕ) → WritesChoice x m text → SpellsSome m (ChoiceTrees x m) text
+  pub choice_spelled : (x : A ⊎ B) (m : Mode) (text : List ℕ) → WritesChoice x m text
+      → SpellsSome m (ChoiceTrees x m) text
   choice_spelled (inl x) = f.spelled x
   choice_spelled (inr y) = g.spelled y
 
-  pub choice_text : (x : A ⊎ B) (m : Mode) (a b : List ℕ) → WritesChoice x m a → WritesChoice x m b → a ≡ b
+  pub choice_text : (x : A ⊎ B) (m : Mode) (a b : List ℕ) → WritesChoice x m a → WritesChoice x m b
+      → a ≡ b
   choice_text (inl x) = f.one_text x
   choice_text (inr y) = g.one_text y
 
-  pub choice_tagged : (m : Mode) (t : Tree) (x : A ⊎ B) → IsChoice m t x → f.has (tag_of t) ⊎ g.has (tag_of t)
+  pub choice_tagged : (m : Mode) (t : Tree) (x : A ⊎ B) → IsChoice m t x → f.has (tag_of t)
+      ⊎ g.has (tag_of t)
   choice_tagged m t x p = elim p.cases [
     | inl q ↦ inl (f.tagged m t q.x q.is)
     | inr q ↦ inr (g.tagged m t q.x q.is)
   ]
 
-  pub choice_read : f.sound → g.sound → (x : A ⊎ B) (m : Mode) (ts : Trees) → LawfulChoice x → ChoiceTrees x m ts → Alone (IsChoice m) (choice_again m x) ts
+  pub choice_read : f.sound → g.sound → (x : A ⊎ B) (m : Mode) (ts : Trees) → LawfulChoice x
+      → ChoiceTrees x m ts → Alone (IsChoice m) (choice_again m x) ts
   choice_read s r (inl x) m ts l p =
       let a = f.is_read s x m ts l p in
-      record { tree = a.tree; alone = a.alone; is = record { cases = inl (record { x = f.again m x; is = a.is; means = refl }) } }
+      record {
+        tree = a.tree;
+        alone = a.alone;
+        is = record { cases = inl (record { x = f.again m x; is = a.is; means = refl }) };
+      }
   choice_read s r (inr y) m ts l p =
       let a = g.is_read r y m ts l p in
-      record { tree = a.tree; alone = a.alone; is = record { cases = inr (record { x = g.again m y; is = a.is; means = refl }) } }
+      record {
+        tree = a.tree;
+        alone = a.alone;
+        is = record { cases = inr (record { x = g.again m y; is = a.is; means = refl }) };
+      }
 
   abbrev left : A → A ⊎ B
   left x = inl x
@@ -56,7 +68,8 @@ module _ {A B : Type 0} (f : Form A) (g : Form B) where
   abbrev right : B → A ⊎ B
   right y = inr y
 
-  pub choice_one : ((t : TagValue) → f.has t → g.has t → ⊥) → (m : Mode) → One (f.reads m) → One (g.reads m) → One (IsChoice m)
+  pub choice_one : ((t : TagValue) → f.has t → g.has t → ⊥) → (m : Mode) → One (f.reads m)
+      → One (g.reads m) → One (IsChoice m)
   choice_one apart m a b = record {
     one = λ t x y p q. elim p.cases [
       | inl l ↦ elim q.cases [
@@ -85,5 +98,6 @@ choice {A} {B} f g = record {
   one_text = choice_text f g;
   tagged = choice_tagged f g;
   is_read = λ s. choice_read f g s.1.0 s.1.1;
-  one_meaning = λ s m c. choice_one f g s.0 m (f.one_meaning s.1.0 m c.0) (g.one_meaning s.1.1 m c.1);
+  one_meaning =
+      λ s m c. choice_one f g s.0 m (f.one_meaning s.1.0 m c.0) (g.one_meaning s.1.1 m c.1);
 }

@@ -34,7 +34,8 @@ pub record Form (A : Type 0) : Type 1 where
   pub spelled : (x : A) (m : Mode) (text : List ℕ) → writes x m text → SpellsSome m (trees x m) text
   pub one_text : (x : A) (m : Mode) (a b : List ℕ) → writes x m a → writes x m b → a ≡ b
   pub tagged : (m : Mode) (t : Tree) (x : A) → reads m t x → has (tag_of t)
-  pub is_read : sound → (x : A) (m : Mode) (ts : Trees) → lawful x → trees x m ts → Alone (reads m) (again m x) ts
+  pub is_read : sound → (x : A) (m : Mode) (ts : Trees) → lawful x → trees x m ts
+      → Alone (reads m) (again m x) ts
   pub one_meaning : sound → (m : Mode) → clear m → One (reads m)
 
 -- The values of a content. `begins` are the tags that the first of them may have.
@@ -49,8 +50,10 @@ pub record Forms (A : Type 0) : Type 1 where
   pub clear : Mode → Type 0
   pub spelled : (x : A) (m : Mode) (text : List ℕ) → writes x m text → SpellsSome m (trees x m) text
   pub one_text : (x : A) (m : Mode) (a b : List ℕ) → writes x m a → writes x m b → a ≡ b
-  pub first : (m : Mode) (ts : Trees) (x : A) → reads m ts x → (t : Tree) (us : Trees) → ts ≡ more t us → begins (tag_of t)
-  pub is_read : sound → (x : A) (m : Mode) (ts : Trees) → lawful x → trees x m ts → reads m ts (again m x)
+  pub first : (m : Mode) (ts : Trees) (x : A) → reads m ts x → (t : Tree) (us : Trees)
+      → ts ≡ more t us → begins (tag_of t)
+  pub is_read : sound → (x : A) (m : Mode) (ts : Trees) → lawful x → trees x m ts
+      → reads m ts (again m x)
   pub one_meaning : sound → (m : Mode) → clear m → OneAll (reads m)
 
 -- A primitive value: what its octets mean, and which are written.
@@ -60,7 +63,8 @@ pub record Octets (A : Type 0) : Type 1 where
   pub again : Mode → A → A
   pub writes : A → Mode → List ℕ → Type 0
   pub one_content : (x : A) (m : Mode) (a b : List ℕ) → writes x m a → writes x m b → a ≡ b
-  pub is_read : (x : A) (m : Mode) (content : List ℕ) → lawful x → writes x m content → reads m content (again m x)
+  pub is_read : (x : A) (m : Mode) (content : List ℕ) → lawful x → writes x m content
+      → reads m content (again m x)
   pub one_meaning : (m : Mode) → OneOctets (reads m)
 
 abbrev pub plain : {A : Type 0} → TagValue → Octets A → Form A
@@ -88,9 +92,11 @@ pub not_more : {t : Tree} {ts : Trees} → none ≡ more t ts → ⊥
 not_more e = cc
 
 -- The first of values has a tag of its form.
-pub first_of : {A : Type 0} (Q : Tree → A → Type 0) (has : TagValue → Type 0) {x : A} {t u : Tree} {ts us : Trees}
+pub first_of : {A : Type 0} (Q : Tree → A → Type 0) (has : TagValue → Type 0) {x : A} {t u : Tree}
+    {ts us : Trees}
     → ((t : Tree) (x : A) → Q t x → has (tag_of t)) → Q t x → more t ts ≡ more u us → has (tag_of u)
-first_of Q has {x} {t} tagged q e = subst (λ (z : Tree). has (tag_of z)) (same_trees e).0 (tagged t x q)
+first_of Q has {x} {t} tagged q e =
+    subst (λ (z : Tree). has (tag_of z)) (same_trees e).0 (tagged t x q)
 
 -- The last value of a content.
 abbrev pub last : {A : Type 0} → Form A → Forms (A × Unit {0})
@@ -107,7 +113,13 @@ last {A} f = record {
   one_text = λ x. f.one_text x.0;
   first = λ m ts x p t us e. first_of (f.reads m) f.has (f.tagged m) p.is (sym p.whole ∙ e);
   is_read = λ s x m ts l p. let a = f.is_read s x.0 m ts l p in
-      record { first = a.tree; others = none; whole = a.alone; is = a.is; rest = record { ended = refl } };
+      record {
+        first = a.tree;
+        others = none;
+        whole = a.alone;
+        is = a.is;
+        rest = record { ended = refl };
+      };
   one_meaning = λ s m c. then_one (f.one_meaning s m c) end_one;
 }
 
@@ -173,7 +185,11 @@ mapped {A} {B} to from f = record {
   one_text = λ y. f.one_text (from y);
   tagged = λ m t y p. f.tagged m t p.x p.is;
   is_read = λ s y m ts l p. let a = f.is_read s (from y) m ts l p in
-      record { tree = a.tree; alone = a.alone; is = record { x = f.again m (from y); is = a.is; means = refl } };
+      record {
+        tree = a.tree;
+        alone = a.alone;
+        is = record { x = f.again m (from y); is = a.is; means = refl };
+      };
   one_meaning = λ s m c. as_one (f.one_meaning s m c);
 }
 
@@ -200,8 +216,10 @@ ended = record {
 }
 
 -- What is written of a lawful value is read again, as the only value.
-pub written_again : {A : Type 0} (f : Form A) → f.sound → (x : A) (m : Mode) (text : List ℕ) → f.lawful x → f.writes x m text
+pub written_again : {A : Type 0} (f : Form A) → f.sound → (x : A) (m : Mode) (text : List ℕ)
+    → f.lawful x → f.writes x m text
     → SpellsSome m (λ ts. Then (f.reads m) End ts (f.again m x, tt)) text
 written_again f s x m text l w =
     let p = f.spelled x m text w in
-    record { trees = p.trees; is = (last f).is_read s (x, tt) m p.trees l p.is; spelled = p.spelled }
+    record
+    { trees = p.trees; is = (last f).is_read s (x, tt) m p.trees l p.is; spelled = p.spelled }

@@ -14,12 +14,14 @@ use Rattle.bcder_values.specs.Forms.{Form, Alone}
 use Rattle.bcder_values.specs.Wraps.{one_spelled}
 
 -- A value of Q, its octets, and the mode in which they stand there.
-pub record KeptIn {A : Type 0} (Q : Mode → Tree → A → Type 0) (m : Mode) (t : Tree) (x : CapturedValue × A) : Type 0 where
+pub record KeptIn {A : Type 0} (Q : Mode → Tree → A → Type 0) (m : Mode) (t : Tree)
+    (x : CapturedValue × A) : Type 0 where
   pub mode : x.0.mode ≡ m
   pub kept : Kept m (Q m) t (x.0.octets, x.1)
 
 -- The octets spell a value of Q.
-pub record Spelt {A : Type 0} (Q : Mode → Tree → A → Type 0) (m : Mode) (octets : List ℕ) (x : A) : Type 0 where
+pub record Spelt {A : Type 0} (Q : Mode → Tree → A → Type 0) (m : Mode) (octets : List ℕ) (x : A)
+    : Type 0 where
   pub tree : Tree
   pub spelled : Spells m tree octets
   pub is : Q m tree x
@@ -32,13 +34,15 @@ KeepsOne Q x = (m : Mode) → StandsIn x.0.mode m → Spelt Q m x.0.octets x.1
 abbrev pub kept_again : {A : Type 0} → Mode → CapturedValue × A → CapturedValue × A
 kept_again m x = (record { mode = m; octets = x.0.octets }, x.1)
 
-only_one : (m : Mode) {ts : Trees} {t : Tree} (text : List ℕ) → SpellsAll m ts text → Spells m t text → ts ≡ more t none
+only_one : (m : Mode) {ts : Trees} {t : Tree} (text : List ℕ) → SpellsAll m ts text
+    → Spells m t text → ts ≡ more t none
 only_one m {ts} {t} text p q =
     let left : Fields m text ts = record { spelled = p } in
     let right : Fields m text (more t none) = record { spelled = one_spelled m t text q } in
     (one_trees ts (more t none) [] [] left right tt tt refl).0
 
-pub kept_read : {A : Type 0} (Q : Mode → Tree → A → Type 0) (x : CapturedValue × A) (m : Mode) (ts : Trees) → KeepsOne Q x → CapturedTrees x.0 m ts
+pub kept_read : {A : Type 0} (Q : Mode → Tree → A → Type 0) (x : CapturedValue × A) (m : Mode)
+    (ts : Trees) → KeepsOne Q x → CapturedTrees x.0 m ts
     → Alone (KeptIn Q m) (kept_again m x) ts
 kept_read Q x m ts l p =
     let s = l m p.stands in
@@ -48,7 +52,8 @@ kept_read Q x m ts l p =
       is = record { mode = refl; kept = record { spelled = s.spelled; is = s.is } };
     }
 
-pub kept_one : {A : Type 0} {Q : Mode → Tree → A → Type 0} {m : Mode} → m ≢ Ber → One (Q m) → One (KeptIn Q m)
+pub kept_one : {A : Type 0} {Q : Mode → Tree → A → Type 0} {m : Mode} → m ≢ Ber → One (Q m)
+    → One (KeptIn Q m)
 kept_one {A} {Q} {m} r one = record {
   one = λ t x y p q.
       let octets = one_spelling m t x.0.octets y.0.octets r p.kept.spelled q.kept.spelled in

@@ -15,16 +15,19 @@ abbrev pub LawfulAll : {A : Type 0} → (A → Type 0) → List A → Type 0
 LawfulAll P [] = Unit {0}
 LawfulAll P (x ∷ xs) = P x × LawfulAll P xs
 
-pub all_read : {A : Type 0} (f : Form A) → f.sound → (m : Mode) (xs : List A) (ts : Trees) → LawfulAll f.lawful xs → AreAll (λ x. f.trees x m) xs ts
+pub all_read : {A : Type 0} (f : Form A) → f.sound → (m : Mode) (xs : List A) (ts : Trees)
+    → LawfulAll f.lawful xs → AreAll (λ x. f.trees x m) xs ts
     → ManyCases (f.reads m) ts (map (f.again m) xs)
 all_read f s m [] ts l p = p
 all_read f s m (x ∷ xs) ts l p =
     let a = f.is_read s x m p.first l.0 p.is_first in
     (a.tree, p.second, p.whole ∙ ap (λ z. joined z p.second) a.alone, a.is, all_read f s m xs p.second l.1 p.is_second)
 
-pub first_many : {A : Type 0} (f : Form A) (m : Mode) (ts : Trees) (xs : List A) → ManyCases (f.reads m) ts xs → (t : Tree) (us : Trees) → ts ≡ more t us → f.has (tag_of t)
+pub first_many : {A : Type 0} (f : Form A) (m : Mode) (ts : Trees) (xs : List A)
+    → ManyCases (f.reads m) ts xs → (t : Tree) (us : Trees) → ts ≡ more t us → f.has (tag_of t)
 first_many f m ts [] p t us e = let k : none ≡ more t us = sym p ∙ e in absurd cc
-first_many f m ts (x ∷ xs) p t us e = subst (λ (z : Tree). f.has (tag_of z)) (same_trees (sym p.2 ∙ e)).0 (f.tagged m p.0 x p.3)
+first_many f m ts (x ∷ xs) p t us e =
+    subst (λ (z : Tree). f.has (tag_of z)) (same_trees (sym p.2 ∙ e)).0 (f.tagged m p.0 x p.3)
 
 -- All values of a content, one after the other.
 abbrev pub items : {A : Type 0} → Form A → Forms (List A)

@@ -16,11 +16,14 @@ WritesAll P [] = NoText
 WritesAll P (x ∷ xs) = WritesBoth (P x) (WritesAll P xs)
 
 -- That what is written spells the values, and is always the same.
-pub all_spelled : (m : Mode) {V : Type 0} {T : V → Trees → Type 0} {P : V → List ℕ → Type 0} → ((v : V) (text : List ℕ) → P v text → SpellsSome m (T v) text)
+pub all_spelled : (m : Mode) {V : Type 0} {T : V → Trees → Type 0} {P : V → List ℕ → Type 0}
+    → ((v : V) (text : List ℕ) → P v text → SpellsSome m (T v) text)
     → (xs : List V) (text : List ℕ) → WritesAll P xs text → SpellsSome m (AreAll T xs) text
 all_spelled m f [] = nothing_spelled m
 all_spelled m f (x ∷ xs) = both_spelled m (f x) (all_spelled m f xs)
 
-pub all_one : {V : Type 0} {P : V → List ℕ → Type 0} → ((v : V) (a b : List ℕ) → P v a → P v b → a ≡ b) → (xs : List V) (a b : List ℕ) → WritesAll P xs a → WritesAll P xs b → a ≡ b
+pub all_one : {V : Type 0} {P : V → List ℕ → Type 0}
+    → ((v : V) (a b : List ℕ) → P v a → P v b → a ≡ b) → (xs : List V) (a b : List ℕ)
+    → WritesAll P xs a → WritesAll P xs b → a ≡ b
 all_one f [] = nothing_one
 all_one f (x ∷ xs) = both_one (f x) (all_one f xs)

@@ -3,7 +3,7 @@ use Rattle.std.specs.Prelude.{◌≡◌, ℕ, List}
 use Rattle.bcder_values.specs.bcder_tree.declared.mode.Mode.{Mode}
 use Rattle.bcder_values.specs.bcder_tree.Tree.{Trees, SpellsAll}
 use Rattle.bcder_content.specs.Contents.{Whole}
-use Rattle.bcder_content.specs.Ran.{fresh}
+use Rattle.bcder_content.specs.ClosureReads.{fresh}
 
 -- A source with these octets, read from its beginning, has values of T and ends after them.
 pub record ReadAgain (m : Mode) (T : Trees → Type 0) (text : List ℕ) : Type 0 where

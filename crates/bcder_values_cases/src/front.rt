@@ -42,28 +42,6 @@ fn number<S: Source>(
     }
 }
 
-// An INTEGER of any size: its octets.
-fn integer<S: Source>(
-    alloc: Global,
-    answer: &mut Answer,
-    cons: &mut Constructed<S>,
-) -> Result<(), DecodeError<S::Error>> {
-    let number = Integer::take_from(alloc, cons)?;
-    answer.octets(number.as_slice());
-    Ok(())
-}
-
-// An INTEGER from 0 up, of any size: its octets.
-fn natural<S: Source>(
-    alloc: Global,
-    answer: &mut Answer,
-    cons: &mut Constructed<S>,
-) -> Result<(), DecodeError<S::Error>> {
-    let number = Unsigned::take_from(alloc, cons)?;
-    answer.octets(number.as_slice());
-    Ok(())
-}
-
 // A bit string: how many bits are unused, and its octets where they are in one piece.
 fn bits<S: Source>(
     alloc: Global,
@@ -74,17 +52,6 @@ fn bits<S: Source>(
     answer.say(&bits.unused());
     answer.join("/x");
     answer.join_octets(bits.octet_slice().unwrap_or(&[]));
-    Ok(())
-}
-
-// An octet string: its octets where they are in one piece.
-fn octets<S: Source>(
-    alloc: Global,
-    answer: &mut Answer,
-    cons: &mut Constructed<S>,
-) -> Result<(), DecodeError<S::Error>> {
-    let string = OctetString::take_from(alloc, cons)?;
-    answer.octets(string.as_slice().unwrap_or(&[]));
     Ok(())
 }
 
@@ -112,17 +79,6 @@ fn skip<S: Source>(
     Ok(())
 }
 
-// A value that is captured: its octets.
-fn capture<S: Source>(
-    alloc: Global,
-    answer: &mut Answer,
-    cons: &mut Constructed<S>,
-) -> Result<(), DecodeError<S::Error>> {
-    let captured = cons.capture_one(alloc)?;
-    answer.octets(captured.as_slice());
-    Ok(())
-}
-
 // A text of a character set, or a number of one of Rust's types.
 fn string<S: Source>(
     alloc: Global,
@@ -139,7 +95,8 @@ fn string<S: Source>(
     }
 }
 
-// Says the value of a kind that is next.
+// Says the value of a kind that is next: of an INTEGER of any size and of a captured value the octets, of an octet string
+// those where they are in one piece.
 fn value<S: Source>(
     alloc: Global,
     answer: &mut Answer,
@@ -147,21 +104,24 @@ fn value<S: Source>(
     cons: &mut Constructed<S>,
 ) -> Result<(), DecodeError<S::Error>> {
     match kind {
-        "integer" => integer(alloc, answer, cons),
-        "unsigned" => natural(alloc, answer, cons),
-        "boolean" => said(answer, cons.take_bool()),
+        "integer" => answer.octets(Integer::take_from(alloc, cons)?.as_slice()),
+        "unsigned" => answer.octets(Unsigned::take_from(alloc, cons)?.as_slice()),
+        "boolean" => return said(answer, cons.take_bool()),
         "null" => {
             cons.take_null()?;
             answer.word("null");
-            Ok(())
         }
-        "oid" => said(answer, Oid::take_from(alloc, cons)),
-        "bits" => bits(alloc, answer, cons),
-        "octets" => octets(alloc, answer, cons),
-        "skip" => skip(alloc, answer, cons),
-        "capture" => capture(alloc, answer, cons),
-        _ => string(alloc, answer, kind, cons),
+        "oid" => return said(answer, Oid::take_from(alloc, cons)),
+        "bits" => return bits(alloc, answer, cons),
+        "octets" => {
+            let string = OctetString::take_from(alloc, cons)?;
+            answer.octets(string.as_slice().unwrap_or(&[]));
+        }
+        "skip" => return skip(alloc, answer, cons),
+        "capture" => answer.octets(cons.capture_one(alloc)?.as_slice()),
+        _ => return string(alloc, answer, kind, cons),
     }
+    Ok(())
 }
 
 /// The value of a kind that stands in front of octets in a mode.

@@ -11,14 +11,6 @@ use std::alloc::Global;
 // 2.5.4.3 (X.520).
 const COMMON_NAME: ConstOid = Oid(&[0x55, 4, 3]);
 
-// The octets of the identifier that a text has, or why there are none.
-fn parsed(alloc: Global, answer: &mut Answer, text: &str) {
-    match Oid::from_str(alloc, text) {
-        Ok(oid) => answer.octets(oid.as_slice()),
-        Err(error) => answer.show(&error),
-    }
-}
-
 // An identifier and its components, printed; one that is no `u32` stands in brackets.
 fn printed(answer: &mut Answer, octets: &[u8]) {
     let oid = Oid(octets);
@@ -43,23 +35,20 @@ fn repeated(answer: &mut Answer, octets: &[u8]) {
     }
 }
 
-// Whether octets are the identifier of a common name, in each way.
-fn same(answer: &mut Answer, octets: &[u8]) {
-    let oid = Oid(octets);
-    let name = Oid(COMMON_NAME.as_slice());
-    answer.show(&[
-        COMMON_NAME.equals(&oid),
-        oid == name,
-        hashed(&oid) == hashed(&name),
-    ]);
-}
-
-// What the identifier with octets is in one way.
+// What the identifier with octets is in one way: printed, repeated, or whether it is that of a common name, by each
+// comparison.
 fn of_octets(answer: &mut Answer, call: &str, octets: &[u8]) {
     match call {
         "print" => printed(answer, octets),
         "repeated" => repeated(answer, octets),
-        _ => same(answer, octets),
+        _ => {
+            let (oid, name) = (Oid(octets), Oid(COMMON_NAME.as_slice()));
+            answer.show(&[
+                COMMON_NAME.equals(&oid),
+                oid == name,
+                hashed(&oid) == hashed(&name),
+            ]);
+        }
     }
 }
 
@@ -105,14 +94,18 @@ fn errors(answer: &mut Answer) {
     answer.say(&ParseOidError::Memory);
 }
 
-/// The octets of a text, what is printed of octets, and how octets are read.
+/// The octets of the identifier that a text has, or why there are none; what is printed of octets, and how octets are
+/// read.
 pub fn answer(alloc: Global, answer: &mut Answer, words: &[&str]) {
     let [call, words @ ..] = words else {
         return answer.unknown();
     };
     let word = word_at(words, 0);
     match *call {
-        "parse" => parsed(alloc, answer, word),
+        "parse" => match Oid::from_str(alloc, word) {
+            Ok(oid) => answer.octets(oid.as_slice()),
+            Err(error) => answer.show(&error),
+        },
         "errors" => errors(answer),
         "print" | "repeated" | "same" => {
             let octets = octets_told(alloc, answer, word);

@@ -68,12 +68,6 @@ fn pair(to: To, answer: &mut Answer) {
     to.values(answer, &sequence(pair.as_slice()));
 }
 
-// No value in a SET.
-fn none(to: To, answer: &mut Answer) {
-    let none: &[Primitive<bool>] = &[];
-    to.values(answer, &set(none));
-}
-
 // A tuple of twelve of two strings, with values that are missing.
 fn twelve(to: To, answer: &mut Answer) {
     let (a, b) = (string(to, answer, &[1]), string(to, answer, &[2]));
@@ -200,22 +194,11 @@ fn tags(to: To, answer: &mut Answer) {
     to.values(answer, &(Constructed::new(Tag::CTX_1, values), others));
 }
 
-// A BOOLEAN, and a content that is too long, in a SEQUENCE.
-fn too_long(to: To, answer: &mut Answer) {
-    let huge = Huge { count: BEYOND };
-    to.values(answer, &sequence((true.encode(), huge.encode())));
-}
-
-// A builder that begins with a BOOLEAN in DER.
-fn begun(alloc: Global) -> Result<Captured, EncodeError> {
-    let mut builder = CapturedBuilder::new(alloc, Mode::Der);
-    builder.extend(&true.encode())?;
-    builder.freeze()
-}
-
 // A BOOLEAN and a NULL that are gathered in two steps in DER.
 fn gathered(alloc: Global) -> Result<Captured, EncodeError> {
-    let mut builder = CapturedBuilder::from_captured(alloc, &begun(alloc)?)?;
+    let mut begun = CapturedBuilder::new(alloc, Mode::Der);
+    begun.extend(&true.encode())?;
+    let mut builder = CapturedBuilder::from_captured(alloc, &begun.freeze()?)?;
     builder.extend(&().encode())?;
     builder.freeze()
 }
@@ -282,13 +265,21 @@ pub fn answer(to: To, answer: &mut Answer, name: &str) {
     match name {
         "three" => three(to, answer),
         "pair" => pair(to, answer),
-        "none" => none(to, answer),
+        "none" => {
+            // No value in a SET.
+            let none: &[Primitive<bool>] = &[];
+            to.values(answer, &set(none));
+        }
         "twelve" => twelve(to, answer),
         "tuples" => tuples(to, answer),
         "long-tuples" => long_tuples(to, answer),
         "choices" => choices(to, answer),
         "tags" => tags(to, answer),
-        "huge" => too_long(to, answer),
+        "huge" => {
+            // A BOOLEAN, and a content that is too long, in a SEQUENCE.
+            let huge = Huge { count: BEYOND };
+            to.values(answer, &sequence((true.encode(), huge.encode())));
+        }
         "captured" => captured(to, answer),
         "refused" => refused(to.alloc, answer),
         "headers" => headers(to.alloc, answer),

@@ -2,7 +2,7 @@
 
 use crate::integers::number;
 use crate::orders::order;
-use crate::parts::octets_told;
+use crate::parts::{octets_told, say_made};
 use answers::{Answer, word_at};
 use bcder::decode::Primitive;
 use bcder::int::InvalidInteger;
@@ -70,17 +70,9 @@ fn same(answer: &mut Answer, number: Unsigned, copy: Unsigned) {
     answer.say(&(number.into_integer() == copy));
 }
 
-// The octets of a copy of a number.
-fn kept(answer: &mut Answer, number: &Unsigned) {
-    match number.clone() {
-        Ok(copy) => answer.octets(copy.into_bytes().as_slice()),
-        Err(_) => answer.word("memory"),
-    }
-}
-
 // The octets of a copy of a number, and whether another copy is the number.
 fn copied(answer: &mut Answer, number: Unsigned) {
-    kept(answer, &number);
+    say_made(answer, number.clone().map(Unsigned::into_bytes));
     match number.clone() {
         Ok(copy) => same(answer, number, copy),
         Err(_) => answer.word("memory"),

@@ -41,14 +41,6 @@ fn gathered(alloc: Global, answer: &mut Answer, string: &OctetString) {
     }
 }
 
-// The octets of a copy of a string.
-fn copied(answer: &mut Answer, string: &OctetString) {
-    match string.clone() {
-        Ok(copy) => answer.octets(copy.into_bytes().as_slice()),
-        Err(_) => answer.word("memory"),
-    }
-}
-
 // What is known of a string: its size, and its octets at once, piece by piece, one by one, shared, and of a copy.
 fn known(alloc: Global, answer: &mut Answer, string: &OctetString) {
     answer.say(&string.len());
@@ -60,7 +52,7 @@ fn known(alloc: Global, answer: &mut Answer, string: &OctetString) {
     }
     gathered(alloc, answer, string);
     say_made(answer, string.to_bytes(alloc));
-    copied(answer, string);
+    say_made(answer, string.clone().map(OctetString::into_bytes));
 }
 
 // What is known of a string that is read of octets by a call.

@@ -22,10 +22,7 @@ type Refusal = DecodeError<Infallible>;
 
 // The octets of a copy of a string, and whether another copy is the same octet string.
 fn copied<L: CharSet>(answer: &mut Answer, string: &RestrictedString<L>) {
-    match string.clone() {
-        Ok(copy) => answer.octets(copy.into_bytes().as_slice()),
-        Err(_) => answer.word("memory"),
-    }
+    say_made(answer, string.clone().map(RestrictedString::into_bytes));
     match string.clone() {
         Ok(copy) => {
             let whole = copy.into_octet_string();

@@ -23,22 +23,18 @@ fn chars<C: CharSet>(alloc: Global, answer: &mut Answer, octets: &[u8]) {
     answer.say(&C::check(octets).is_ok());
 }
 
-// The octets of a text, or that it is none of the set.
-fn spelled<C: CharSet>(answer: &mut Answer, text: &str) {
-    match C::from_str(text) {
-        Ok(octets) => answer.octets(octets),
-        Err(error) => answer.show(&error),
-    }
-}
-
-// The answer of a set: about octets or a text, or the tag of its strings and the text of its refusals.
+// The answer of a set: the characters of octets; the octets of a text, or that it is none of the set; or the tag of its
+// strings and the text of its refusals.
 fn of_set<C: CharSet>(alloc: Global, answer: &mut Answer, call: &str, word: &str) {
     match call {
         "chars" => {
             let octets = octets_told(alloc, answer, word);
             chars::<C>(alloc, answer, octets.as_slice());
         }
-        "spelled" => spelled::<C>(answer, word),
+        "spelled" => match C::from_str(word) {
+            Ok(octets) => answer.octets(octets),
+            Err(error) => answer.show(&error),
+        },
         _ => {
             answer.say(&C::tag());
             answer.say(&CharSetError);

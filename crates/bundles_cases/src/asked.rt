@@ -63,6 +63,8 @@ pub struct Asked<'a> {
     pub alloc: Global,
     /// The issuer.
     pub issuer: &'a ResourceCert,
+    /// The call.
+    pub call: &'a str,
     /// Whether DER alone is read, and no UTF8Strings in names.
     pub strict: bool,
     /// The moment.

@@ -123,18 +123,19 @@ fn below(
     let Some(now) = Time::from_generalized(word_at(words, 2).as_bytes()) else {
         return Err(anyhow!("no moment"));
     };
+    let call = word_at(words, 0);
     let asked = Asked {
         alloc,
         issuer,
+        call,
         strict: word_at(words, 1) == "strict",
         now,
-        by_clock: word_at(words, 0).ends_with("-clock"),
+        by_clock: call.ends_with("-clock"),
         test: Test::from_word(word_at(words, 3)),
     };
     let octets = octets_of(alloc, word_at(words, 6));
     let mut verifier = Table::new(bundle, &Fips);
-    let call = word_at(words, 0);
-    validated::answer(&asked, answer, kind, call, octets.as_slice(), &mut verifier);
+    validated::answer(&asked, answer, kind, octets.as_slice(), &mut verifier);
     answer.say(&format_args!("asked {}", verifier.asked));
     Ok(())
 }

@@ -29,17 +29,11 @@ fn processed(
     }
 }
 
-// A signed object, by a call.
-fn of_call(
-    asked: &Asked<'_>,
-    call: &str,
-    answer: &mut Answer,
-    signed: SignedObject,
-    verifier: &mut Table<'_>,
-) {
-    if call.starts_with("detached") {
+// A signed object, by the call.
+fn of_call(asked: &Asked<'_>, answer: &mut Answer, signed: SignedObject, verifier: &mut Table<'_>) {
+    if asked.call.starts_with("detached") {
         said::accepted(answer, validate_detached(asked, signed, verifier));
-    } else if call.starts_with("process") {
+    } else if asked.call.starts_with("process") {
         processed(asked, answer, signed, verifier);
     } else {
         said::accepted(answer, validate_object(asked, signed, verifier));
@@ -47,15 +41,9 @@ fn of_call(
 }
 
 // A signed object of any kind: that it is processed, stands apart, or is validated.
-fn object(
-    asked: &Asked<'_>,
-    call: &str,
-    answer: &mut Answer,
-    octets: &[u8],
-    verifier: &mut Table<'_>,
-) {
+fn object(asked: &Asked<'_>, answer: &mut Answer, octets: &[u8], verifier: &mut Table<'_>) {
     match SignedObject::decode(asked.alloc, octets, asked.strict) {
-        Ok(signed) => of_call(asked, call, answer, signed, verifier),
+        Ok(signed) => of_call(asked, answer, signed, verifier),
         Err(error) => {
             drop(error);
             answer.word(UNREADABLE);
@@ -140,12 +128,11 @@ fn attested<T: Told>(
     }
 }
 
-/// An object of that kind, by a call.
+/// An object of that kind, by the call.
 pub fn answer(
     asked: &Asked<'_>,
     answer: &mut Answer,
     kind: &str,
-    call: &str,
     octets: &[u8],
     verifier: &mut Table<'_>,
 ) {
@@ -153,6 +140,6 @@ pub fn answer(
         "manifest" => manifest(asked, answer, octets, verifier),
         "roa" => attested::<RouteOriginAttestation>(asked, answer, octets, verifier),
         "aspa" => attested::<AsProviderAttestation>(asked, answer, octets, verifier),
-        _ => object(asked, call, answer, octets, verifier),
+        _ => object(asked, answer, octets, verifier),
     }
 }

@@ -27,11 +27,13 @@ abbrev pub PlainText : Mode → Tree → List ℕ → Type 0
 PlainText m (primitive tag content) = WritesPlain m tag (λ octets. AnyOctets octets content)
 PlainText m (constructed tag values) = λ text. ⊥
 
-pub plain_tree_spelled : (m : Mode) (t : Tree) (text : List ℕ) → PlainText m t text → SpellsSome m (PlainTrees t) text
+pub plain_tree_spelled : (m : Mode) (t : Tree) (text : List ℕ) → PlainText m t text
+    → SpellsSome m (PlainTrees t) text
 plain_tree_spelled m (primitive tag content) text w = plain_spelled m text w
 plain_tree_spelled m (constructed tag values) text w = absurd w
 
-pub plain_tree_one : (m : Mode) (t : Tree) (a b : List ℕ) → PlainText m t a → PlainText m t b → a ≡ b
+pub plain_tree_one : (m : Mode) (t : Tree) (a b : List ℕ) → PlainText m t a → PlainText m t b
+    → a ≡ b
 plain_tree_one m (primitive tag content) a b v w = plain_one m (one_string content) a b v w
 plain_tree_one m (constructed tag values) a b v w = absurd v
 
@@ -46,14 +48,21 @@ pub record WritesTimeOf (m : Mode) (seconds : ℕ) (text : List ℕ) : Type 0 wh
   pub tells : WritesTime seconds tree
   pub is : PlainText m tree text
 
-pub time_spelled : (m : Mode) (seconds : ℕ) (text : List ℕ) → WritesTimeOf m seconds text → SpellsSome m (IsTimeOf seconds) text
+pub time_spelled : (m : Mode) (seconds : ℕ) (text : List ℕ) → WritesTimeOf m seconds text
+    → SpellsSome m (IsTimeOf seconds) text
 time_spelled m seconds text w =
     let p = plain_tree_spelled m w.tree text w.is in
-    record { trees = p.trees; is = record { tree = w.tree; tells = w.tells; is = p.is }; spelled = p.spelled }
+    record {
+      trees = p.trees;
+      is = record { tree = w.tree; tells = w.tells; is = p.is };
+      spelled = p.spelled;
+    }
 
-pub time_one : (m : Mode) (seconds : ℕ) (a b : List ℕ) → WritesTimeOf m seconds a → WritesTimeOf m seconds b → a ≡ b
+pub time_one : (m : Mode) (seconds : ℕ) (a b : List ℕ) → WritesTimeOf m seconds a
+    → WritesTimeOf m seconds b → a ≡ b
 time_one m seconds a b v w =
-    plain_tree_one m w.tree a b (subst (λ (t : Tree). PlainText m t a) (one_written seconds v.tree w.tree v.tells w.tells) v.is) w.is
+    plain_tree_one m w.tree a b (subst (λ (t : Tree). PlainText m t a)
+    (one_written seconds v.tree w.tree v.tells w.tells) v.is) w.is
 
 abbrev pub time : ℕ → Output
 time seconds = record {

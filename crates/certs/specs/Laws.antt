@@ -59,7 +59,9 @@ FieldsStay = (c : TbsValue) → IsPadded Der c.key.bits → fields_again c ≡ c
 
 -- What is written of fields is read again as these fields.
 abbrev pub FieldsAreRead : Type 0
-FieldsAreRead = (c : TbsValue) (text : List ℕ) → IsLawful c → IsReadable c → WritesTbs c text → SpellsOf Der (IsTbs Der) text (fields_again c)
+FieldsAreRead =
+    (c : TbsValue) (text : List ℕ) → IsLawful c → IsReadable c → WritesTbs c text
+    → SpellsOf Der (IsTbs Der) text (fields_again c)
 
 -- A certificate is built of the fields: what was signed is what is written of them in DER, and the octets are what is written
 -- of the certificate in DER (RFC 5280 4.1.1).
@@ -83,22 +85,30 @@ as_read s c = record {
 
 -- What is written of a certificate that is built is read again as this certificate.
 abbrev pub BuiltIsRead : Type 0
-BuiltIsRead = (s : SignedDataValue) (c : TbsValue) (text : List ℕ) → IsLawful c → IsReadable c → IsBuilt s c text → CertText text (as_read s (fields_again c))
+BuiltIsRead =
+    (s : SignedDataValue) (c : TbsValue) (text : List ℕ) → IsLawful c → IsReadable c
+    → IsBuilt s c text → CertText text (as_read s (fields_again c))
 
 -- It spells this certificate, and nothing stands after it.
 abbrev pub BuiltIsSpelled : Type 0
-BuiltIsSpelled = (s : SignedDataValue) (c : TbsValue) (text : List ℕ) → IsLawful c → IsReadable c → IsBuilt s c text → SpellsCert Der text (as_read s (fields_again c))
+BuiltIsSpelled =
+    (s : SignedDataValue) (c : TbsValue) (text : List ℕ) → IsLawful c → IsReadable c
+    → IsBuilt s c text → SpellsCert Der text (as_read s (fields_again c))
 
 -- It is the certificate that was built, where what was signed stands in DER, and the unused bits of the signature are zero, as
 -- where there are none (X.690 11.2.1).
 abbrev pub ReadIsBuilt : Type 0
-ReadIsBuilt = (s : SignedDataValue) (c : TbsValue) → s.message.mode ≡ Der → IsPadded Der s.signature.bits → as_read s c ≡ record { signed = signed_of s; tbs = c }
+ReadIsBuilt = (s : SignedDataValue) (c : TbsValue) → s.message.mode ≡ Der
+    → IsPadded Der s.signature.bits → as_read s c ≡ record { signed = signed_of s; tbs = c }
 
 -- The fields of a certificate that is read are such, and the unused bits of its key are zero, so that they are read again as
 -- they are, once they are written.
 abbrev pub ReadIsReadable : Type 0
-ReadIsReadable = (octets : List ℕ) (c : CertValue) → CertText octets c → IsReadable c.tbs × IsPadded Der c.tbs.key.bits
+ReadIsReadable =
+    (octets : List ℕ) (c : CertValue) → CertText octets c → IsReadable c.tbs
+    × IsPadded Der c.tbs.key.bits
 
 -- Octets are one certificate at most.
 abbrev pub OctetsAreOneCert : Type 0
-OctetsAreOneCert = (octets : List ℕ) (c d : CertValue) → CertText octets c → CertText octets d → c ≡ d
+OctetsAreOneCert =
+    (octets : List ℕ) (c d : CertValue) → CertText octets c → CertText octets d → c ≡ d

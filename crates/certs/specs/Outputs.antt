@@ -18,7 +18,12 @@ pub record Output : Type 1 where
 
 -- A value of a form.
 abbrev pub of : {A : Type 0} → Form A → A → Output
-of f x = record { trees = f.trees x; writes = f.writes x; spelled = f.spelled x; one_text = f.one_text x }
+of f x = record {
+  trees = f.trees x;
+  writes = f.writes x;
+  spelled = f.spelled x;
+  one_text = f.one_text x;
+}
 
 -- One after the other.
 abbrev pub beside : Output → Output → Output

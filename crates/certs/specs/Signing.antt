@@ -16,5 +16,6 @@ NotWritten c = NotWrittenIf (CanBeWritten c) (CanBeWritten c → ⊥)
 
 -- The fields can be written, but for `TooLong`, which no signer answers: the signer is asked after that, and memory too.
 -- `refuses` says by which errors the signer refuses.
-abbrev pub SigningRefused : {E : Type 0} → (refuses : SigningError E → Type 0) → TbsValue → SigningError E → Type 0
+abbrev pub SigningRefused : {E : Type 0} → (refuses : SigningError E → Type 0) → TbsValue
+    → SigningError E → Type 0
 SigningRefused refuses c = SigningRefusedIf refuses (CanBeWritten c) (CanBeWritten c → ⊥)

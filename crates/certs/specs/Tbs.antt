@@ -24,7 +24,8 @@ use Rattle.certs.specs.Values.{ExtensionOf, extended, extended_if, extension_of,
 -- extKeyUsage (RFC 6487 4.8.1 to 4.8.5).
 abbrev pub KeyParts : Type 0
 KeyParts = Option (ExtensionOf Bool)
-    × (ExtensionOf (List ℕ) × (Option (ExtensionOf (List ℕ)) × (ExtensionOf KeyUsage × Option (ExtensionOf (List (List ℕ))))))
+    × (ExtensionOf (List ℕ) × (Option (ExtensionOf (List ℕ))
+    × (ExtensionOf KeyUsage × Option (ExtensionOf (List (List ℕ))))))
 
 abbrev pub key_parts : TbsValue → KeyParts
 key_parts c = (
@@ -48,12 +49,17 @@ written_keys p =
 
 -- Those of where things are found: cRLDistributionPoints, authorityInfoAccess, subjectInfoAccess (RFC 6487 4.8.6 to 4.8.8).
 abbrev pub PlaceParts : Type 0
-PlaceParts = Option (ExtensionOf (List ℕ)) × (Option (ExtensionOf (List ℕ)) × Option (ExtensionOf AccessValue))
+PlaceParts =
+    Option (ExtensionOf (List ℕ))
+    × (Option (ExtensionOf (List ℕ)) × Option (ExtensionOf AccessValue))
 
 abbrev pub place_parts : TbsValue → PlaceParts
 place_parts c = (
   extended_if id.crl_distribution_points false c.crl_uri,
-  (extended_if id.authority_info_access false c.ca_issuer, extended_if id.subject_info_access false (some_access c.access)),
+  (
+    extended_if id.authority_info_access false c.ca_issuer,
+    extended_if id.subject_info_access false (some_access c.access),
+  ),
 )
 
 abbrev pub written_places : PlaceParts → Output
@@ -64,7 +70,8 @@ written_places p =
 
 -- Those of resources: certificatePolicies, IP before AS resources (RFC 6487 4.8.9 to 4.8.11, RFC 8360 4.2).
 abbrev pub ResourceParts : Type 0
-ResourceParts = ExtensionOf Overclaim × (Option (ExtensionOf FamilyChoices) × Option (ExtensionOf Choice))
+ResourceParts =
+    ExtensionOf Overclaim × (Option (ExtensionOf FamilyChoices) × Option (ExtensionOf Choice))
 
 abbrev pub resource_parts : TbsValue → ResourceParts
 resource_parts c = (
@@ -80,11 +87,14 @@ written_resources p =
 
 -- All extensions that are there, in this order (RFC 6487 4.8).
 abbrev pub extensions : TbsValue → Output
-extensions c = beside (written_keys (key_parts c)) (beside (written_places (place_parts c)) (written_resources (resource_parts c)))
+extensions c = beside (written_keys (key_parts c))
+    (beside (written_places (place_parts c)) (written_resources (resource_parts c)))
 
 -- version, serialNumber, signature, issuer, notBefore, notAfter, subject, subjectPublicKeyInfo, and the extensions by all fields.
 abbrev pub TbsParts : Type 0
-TbsParts = ℕ × (ℕ × (AlgorithmValue × (CapturedValue × ((ℕ × ℕ) × (CapturedValue × (KeyValue × TbsValue))))))
+TbsParts =
+    ℕ
+    × (ℕ × (AlgorithmValue × (CapturedValue × ((ℕ × ℕ) × (CapturedValue × (KeyValue × TbsValue))))))
 
 -- The version is 3, whose number is 2 (RFC 5280 4.1.2.1).
 abbrev pub tbs_parts : TbsValue → TbsParts

@@ -50,21 +50,27 @@ extended_if kind critical (Some value) = Some (extended kind critical value)
 -- Extension ::= SEQUENCE { extnID OBJECT IDENTIFIER, critical BOOLEAN DEFAULT FALSE, extnValue OCTET STRING } (RFC 5280 4.1)
 abbrev pub ExtensionTrees : List ℕ → Bool → (List ℕ → Type 0) → Mode → Trees → Type 0
 ExtensionTrees kind critical P m =
-    IsWrapped sequence_tag (AreBoth (oid.trees kind m) (AreBoth ((truth critical).trees m) (IsAround m octet_string_tag P)))
+    IsWrapped sequence_tag (AreBoth (oid.trees kind m)
+    (AreBoth ((truth critical).trees m) (IsAround m octet_string_tag P)))
 
 abbrev pub ExtensionText : List ℕ → Bool → (List ℕ → Type 0) → Mode → List ℕ → Type 0
 ExtensionText kind critical P m =
-    WritesWrapped m sequence_tag (WritesBoth (oid.writes kind m) (WritesBoth ((truth critical).writes m) (WritesAround m octet_string_tag P)))
+    WritesWrapped m sequence_tag (WritesBoth (oid.writes kind m)
+    (WritesBoth ((truth critical).writes m) (WritesAround m octet_string_tag P)))
 
-pub extension_spelled : (kind : List ℕ) (critical : Bool) (P : List ℕ → Type 0) (m : Mode) (text : List ℕ) → ExtensionText kind critical P m text
+pub extension_spelled : (kind : List ℕ) (critical : Bool) (P : List ℕ → Type 0) (m : Mode)
+    (text : List ℕ) → ExtensionText kind critical P m text
     → SpellsSome m (ExtensionTrees kind critical P m) text
 extension_spelled kind critical P m =
-    wrapped_spelled m (both_spelled m (oid.spelled kind m) (both_spelled m ((truth critical).spelled m) (λ text w. around_spelled m text w)))
+    wrapped_spelled m (both_spelled m (oid.spelled kind m)
+    (both_spelled m ((truth critical).spelled m) (λ text w. around_spelled m text w)))
 
-pub extension_text : (kind : List ℕ) (critical : Bool) (P : List ℕ → Type 0) → ((a b : List ℕ) → P a → P b → a ≡ b) → (m : Mode) (a b : List ℕ)
+pub extension_text : (kind : List ℕ) (critical : Bool) (P : List ℕ → Type 0)
+    → ((a b : List ℕ) → P a → P b → a ≡ b) → (m : Mode) (a b : List ℕ)
     → ExtensionText kind critical P m a → ExtensionText kind critical P m b → a ≡ b
 extension_text kind critical P one m =
-    wrapped_one m (both_one (oid.one_text kind m) (both_one ((truth critical).one_text m) (λ a b v w. around_one m one a b v w)))
+    wrapped_one m (both_one (oid.one_text kind m)
+    (both_one ((truth critical).one_text m) (λ a b v w. around_one m one a b v w)))
 
 abbrev pub extension : List ℕ → Bool → Output → Output
 extension kind critical value = record {
@@ -103,7 +109,8 @@ uri_name = of (octets_at (context 6))
 
 -- CRLDistributionPoints ::= SEQUENCE { SEQUENCE { distributionPoint [0] { fullName [0] { uri } } } } (RFC 6487 4.8.6)
 abbrev pub crl : List ℕ → Output
-crl uri = inside sequence_tag (inside sequence_tag (inside (context 0) (inside (context 0) (uri_name uri))))
+crl uri = inside sequence_tag (inside sequence_tag
+    (inside (context 0) (inside (context 0) (uri_name uri))))
 
 -- AccessDescription ::= SEQUENCE { accessMethod OBJECT IDENTIFIER, accessLocation } (RFC 5280 4.2.2)
 pub record Located : Type 0 where
@@ -122,15 +129,18 @@ abbrev pub issuer_access : List ℕ → Output
 issuer_access uri = inside sequence_tag (location (record { method = id.ca_issuers; uri = uri }))
 
 -- SubjectInfoAccessSyntax: repository, manifest, signed object and notification, those that there are (RFC 6487 4.8.8, RFC 8182 3.2)
-abbrev pub locations : AccessValue → Option Located × (Option Located × (Option Located × Option Located))
+abbrev pub locations : AccessValue → Option Located
+    × (Option Located × (Option Located × Option Located))
 locations a = (
   located id.ca_repository a.repository,
   (located id.rpki_manifest a.manifest, (located id.signed_object a.object, located id.rpki_notify a.notify)),
 )
 
-abbrev pub all_locations : Option Located × (Option Located × (Option Located × Option Located)) → Output
+abbrev pub all_locations : Option Located × (Option Located × (Option Located × Option Located))
+    → Output
 all_locations l = inside sequence_tag
-    (beside (perhaps location l.0) (beside (perhaps location l.1.0) (beside (perhaps location l.1.1.0) (perhaps location l.1.1.1))))
+    (beside (perhaps location l.0) (beside (perhaps location l.1.0)
+    (beside (perhaps location l.1.1.0) (perhaps location l.1.1.1))))
 
 abbrev pub subject_access : AccessValue → Output
 subject_access a = all_locations (locations a)

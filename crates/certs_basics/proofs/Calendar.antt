@@ -2,22 +2,13 @@
 use Rattle.std.proofs.Common.{◌≡◌, ℕ, zero, suc, ◌+◌, ◌-◌, ◌<◌, ◌≤◌, refl, ap, arith, pos, unsigned_abs, to_z, w8, w16, ◌+ℤ◌}
 use Rattle.std.proofs.lemmas.Int.{by_lt_z}
 use Rattle.jiff_core.specs.Calendar as jiff
-use Rattle.jiff_core.specs.Calendar.{is_leap_year}
 use Rattle.jiff_core.proofs.CalendarLemmas.{day_count-lt_year, days_from_civil-day_count}
 use Rattle.jiff_core.proofs.DateLemmas.{civil, epoch_day_injective, epoch_day_range}
 use Rattle.jiff_core.proofs.MarchLemmas.{day_count-early, leap_day, leap_day-shift, days_in_year-leap_day, days_of_years-suc}
 use Rattle.jiff_core.proofs.SignedLemmas.{one_part, signed_arith, signed_casts}
 use Rattle.jiff_core.specs.declared.civil.date.Date.{Date}
 use Rattle.jiff_core.specs.Date.{epoch_day, IsYmd}
-use Rattle.certs_basics.specs.Times.{Civil, IsReal, days_before, seconds_of, is_leap, days_in_month, days_of_months, days_of_years}
-
--- The two rules for leap years are one.
-pub is_leap_same : (y : ℕ) → is_leap_year (pos y) ≡ is_leap y
-is_leap_same y = refl
-
--- Months have the same lengths.
-pub days_in_month_same : (y m : ℕ) → jiff.days_in_month (pos y) m ≡ days_in_month y m
-days_in_month_same y m = refl
+use Rattle.certs_basics.specs.Times.{Civil, IsReal, days_before, seconds_of, days_in_month, days_of_months, days_of_years}
 
 -- And so have the first months of a year.
 pub days_of_months_same : (y n : ℕ) → jiff.days_of_months (pos y) n ≡ days_of_months y n

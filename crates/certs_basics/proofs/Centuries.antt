@@ -9,7 +9,7 @@ use Rattle.certs_basics.specs.bcder_tree.Tree.{primitive}
 use Rattle.certs_basics.specs.declared.time.text.Form.{Form}
 use Rattle.certs_basics.specs.declared.time.text.Form.TheVariants.{Utc, Generalized}
 use Rattle.certs_basics.specs.Times.{Civil, IsMoment, moment_text}
-use Rattle.certs_basics.specs.Forms.{IsShortMoment, IsShortYear, Tells, WritesTime, length_of, short_text, with_century_of, time_tree, tag_of, text_in}
+use Rattle.certs_basics.specs.Forms.{IsShortMoment, IsShortYear, Tells, length_of, short_text, with_century_of, time_tree}
 
 -- Without the century, the texts are one.
 drop_century : (c : Civil) (a b : ℕ) (text : List ℕ) → a ∷ b ∷ text ≡ moment_text c → text ≡ short_text c
@@ -39,23 +39,6 @@ early h r lt = let a = h.thousands in let b = h.hundreds in let t = h.tens in (o
 
 pub late : {t year : ℕ} → HasYear 49 57 t year → year < 10000 → 53 ≤ t → IsShortYear year
 late h r le = let a = h.thousands in let b = h.hundreds in let t = h.tens in (omega arith, omega arith)
-
--- And the other way round.
-pub record IsEarly (a b t : ℕ) : Type 0 where
-  pub first : a ≡ 50
-  pub second : b ≡ 48
-  pub third : t < 53
-
-pub record IsLate (a b t : ℕ) : Type 0 where
-  pub first : a ≡ 49
-  pub second : b ≡ 57
-  pub third : 53 ≤ t
-
-pub early_year : {a b t year : ℕ} → HasYear a b t year → 2000 ≤ year → year < 2050 → IsEarly a b t
-early_year h p q = let a = h.thousands in let b = h.hundreds in let t = h.tens in record { first = omega arith; second = omega arith; third = omega arith }
-
-pub late_year : {a b t year : ℕ} → HasYear a b t year → 1950 ≤ year → year < 2000 → IsLate a b t
-late_year h p q = let a = h.thousands in let b = h.hundreds in let t = h.tens in record { first = omega arith; second = omega arith; third = omega arith }
 
 -- The century that stands in front.
 century_early : (t : ℕ) (text : List ℕ) → t < 53 → with_century_of (t ∷ text) ≡ 50 ∷ 48 ∷ t ∷ text
@@ -177,25 +160,3 @@ whole_tree c n = elim (cases_lt c.year 1950) [
     | inr ge ↦ grind (arith, nat_tests)
   ]
 ]
-
-drop_two : (c : Civil) → drop 2 (moment_text c) ≡ short_text c
-drop_two c =
-    let tens : 48 + c.year / 10 % 10 ≡ 48 + c.year % 100 / 10 % 10 = omega arith in
-    let ones : 48 + c.year % 10 ≡ 48 + c.year % 100 % 10 = omega arith in
-    cc
-
-pub written_short : (whole : List ℕ) (s : ℕ) (m : IsMoment whole s) → IsShortYear m.civil.year → WritesTime s (primitive (tag_of Utc) (text_in Utc whole))
-written_short whole s m y = record {
-  civil = m.civil;
-  real = m.real;
-  seconds_are = m.seconds_are;
-  tree_is = ap (λ (v : List ℕ). primitive utc_time_tag (drop 2 v)) m.text_is ∙ ap (primitive utc_time_tag) (drop_two m.civil) ∙ sym (short_tree m.civil y);
-}
-
-pub written_whole : (whole : List ℕ) (s : ℕ) (m : IsMoment whole s) → (IsShortYear m.civil.year → ⊥) → WritesTime s (primitive (tag_of Generalized) (text_in Generalized whole))
-written_whole whole s m n = record {
-  civil = m.civil;
-  real = m.real;
-  seconds_are = m.seconds_are;
-  tree_is = ap (primitive generalized_time_tag) m.text_is ∙ sym (whole_tree m.civil n);
-}

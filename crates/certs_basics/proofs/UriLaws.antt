@@ -5,6 +5,13 @@ use Rattle.std.proofs.lemmas.Bool.Decides.{nat_tests}
 use Rattle.std.proofs.lemmas.List.{length-map, length-take, drop_all, nil_from_length}
 use Rattle.std.proofs.lemmas.List.Elements.{All-append, All-drop, All-map, All-same, All-take, All-weaker}
 use Rattle.std.proofs.lemmas.List.Folds.{length-prefix_len}
+use Rattle.std.proofs.lemmas.Map.Text.{is_eq-slice_cmp}
+use Rattle.std.proofs.lemmas.Slice.Eq.{bytes_eq-Decides}
+use Rattle.std.specs.Cmp.{Equal-is}
+use Rattle.std.specs.Cmp.Lexicographic.{slice_cmp}
+use Rattle.std.specs.Ordering.{nat_cmp}
+use Rattle.std.specs.Prelude.{◌↔◌}
+use Rattle.std.specs.declared.cmp.Ordering.TheVariants.{Equal}
 use Rattle.certs_basics.specs.Uris.{lower, lower_host, lookup_key, IsUriOctet, IsSegment, IsRest, HasScheme, IsModulePath, IsRsync, IsHttps, IsUri, IsLookupKey}
 use Rattle.certs_basics.proofs.UriTexts.{segment_len, segment_len-append, no_slash-take, IsRest-drop, lower_host-split, lookup_key-split, IsSplit, HasScheme-from_rsync, HasScheme-from_https, IsRsync-from_parts, IsHttps-from_parts}
 
@@ -128,3 +135,11 @@ IsUri-lookup_key uri (inr r) = inr (IsHttps-lookup_key uri r)
 -- The lookup key of a URI is a lookup key.
 pub IsLookupKey-lookup_key : (uri : List ℕ) → IsUri uri → IsLookupKey (lookup_key uri)
 IsLookupKey-lookup_key uri u = record { uri = IsUri-lookup_key uri u; own_key = lookup_key-lookup_key uri }
+
+-- The order of texts tells them apart.
+pub order_tells : (a b : List ℕ) → (slice_cmp nat_cmp a b ≡ Equal) ↔ (a ≡ b)
+order_tells a b =
+    let same = is_eq-slice_cmp a b in
+    let texts = bytes_eq-Decides a b in
+    let test = Equal-is (slice_cmp nat_cmp a b) in
+    (λ e. texts.0 (sym same ∙ test.1 e), λ e. test.0 (same ∙ texts.1 e))

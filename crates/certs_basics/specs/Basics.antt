@@ -5,7 +5,7 @@ use Rattle.certs_basics.specs.bcder_tree.Tags.{TagValue, integer_tag, null_tag, 
 use Rattle.certs_basics.specs.bcder_tree.Tree.{Tree, Trees}
 use Rattle.certs_basics.specs.bcder_tree.Strings.{IsString}
 use Rattle.certs_basics.specs.bcder_primitive.Values.{IsNull}
-use Rattle.certs_basics.specs.bcder_content.Grammar.{Inside, OctetsOf, Such, As, Then, Opt, End}
+use Rattle.certs_basics.specs.bcder_content.Grammar.{Inside, OctetsOf, Where, As, Then, Opt, End}
 use Rattle.certs_basics.specs.bcder_number.Integers.{IsNatural}
 use Rattle.certs_basics.specs.bcder.Identifiers.{AreOctets}
 use Rattle.certs_basics.specs.Identifiers.{sha256_with_rsa}
@@ -15,7 +15,7 @@ abbrev pub IsSmallEnough : ℕ → Type 0
 IsSmallEnough n = n < 2 ^ 160
 
 abbrev pub IsSerial : Tree → ℕ → Type 0
-IsSerial = Such (OctetsOf integer_tag IsNatural) IsSmallEnough
+IsSerial = Where (OctetsOf integer_tag IsNatural) IsSmallEnough
 
 -- NULL OPTIONAL, at the end: whether it is there.
 abbrev pub OptNull : Trees → Option (Unit {0}) × Unit {0} → Type 0
@@ -41,4 +41,4 @@ abbrev pub IsTwentyLong : List ℕ → Type 0
 IsTwentyLong octets = length octets ≡ 20
 
 abbrev pub IsKeyIdentifier : Mode → TagValue → Tree → List ℕ → Type 0
-IsKeyIdentifier m tag = Such (IsString m tag) IsTwentyLong
+IsKeyIdentifier m tag = Where (IsString m tag) IsTwentyLong

@@ -28,11 +28,13 @@ kind_of Ecdsa = ec_public_key
 
 pub data AreParameters : PublicKeyFormat → Trees → Type 0 where
   of_rsa : {ts : Trees} {x : _} → OptNull ts x → AreParameters Rsa ts
-  of_ecdsa : {ts : Trees} {x : _} → Then (OctetsOf oid_tag (AreOctets secp256r1)) End ts x → AreParameters Ecdsa ts
+  of_ecdsa : {ts : Trees} {x : _} → Then (OctetsOf oid_tag (AreOctets secp256r1)) End ts x
+      → AreParameters Ecdsa ts
 
 -- AlgorithmIdentifier ::= SEQUENCE { algorithm OBJECT IDENTIFIER, parameters ANY DEFINED BY algorithm }
 pub record IsFormatBody (ts : Trees) (format : PublicKeyFormat) : Type 0 where
-  pub are : ThenBy (OctetsOf oid_tag IsOid) (λ kind us x. (kind ≡ kind_of x) × AreParameters x us) ts (kind_of format, format)
+  pub are : ThenBy (OctetsOf oid_tag IsOid) (λ kind us x. (kind ≡ kind_of x)
+      × AreParameters x us) ts (kind_of format, format)
 
 abbrev pub IsFormat : Tree → PublicKeyFormat → Type 0
 IsFormat = Inside sequence_tag IsFormatBody
@@ -43,7 +45,8 @@ format_tree Rsa = sequence (primitive oid_tag rsa_encryption ∷ primitive null_
 format_tree Ecdsa = sequence (primitive oid_tag ec_public_key ∷ primitive oid_tag secp256r1 ∷ [])
 
 abbrev pub key_tree : KeyValue → Tree
-key_tree k = sequence (format_tree k.format ∷ primitive bit_string_tag (k.bits.unused ∷ cleared k.bits.unused k.bits.octets) ∷ [])
+key_tree k = sequence (format_tree k.format ∷ primitive bit_string_tag
+    (k.bits.unused ∷ cleared k.bits.unused k.bits.octets) ∷ [])
 
 -- Its encoded octets; a value has one spelling in DER.
 abbrev pub Encodes : KeyValue → List ℕ → Type 0
@@ -57,7 +60,8 @@ pub record HasEncoding (k : KeyValue) : Type 0 where
 -- SubjectPublicKeyInfo ::= SEQUENCE { algorithm AlgorithmIdentifier, subjectPublicKey BIT STRING } (RFC 5280 4.1), of a
 -- key that has encoded octets.
 pub record IsKeyBody (m : Mode) (ts : Trees) (k : KeyValue) : Type 0 where
-  pub are : Then IsFormat (Then (OctetsOf bit_string_tag (IsBitString m)) End) ts (k.format, (k.bits, tt))
+  pub are : Then IsFormat (Then (OctetsOf bit_string_tag (IsBitString m)) End) ts
+      (k.format, (k.bits, tt))
   pub has : HasEncoding k
 
 abbrev pub IsKey : Mode → Tree → KeyValue → Type 0
@@ -80,7 +84,8 @@ encoded_format Rsa = der 48 (der 6 rsa_encryption ++ der 5 [])
 encoded_format Ecdsa = der 48 (der 6 ec_public_key ++ der 6 secp256r1)
 
 abbrev pub encoded : KeyValue → List ℕ
-encoded k = der 48 (encoded_format k.format ++ der 3 (k.bits.unused ∷ cleared k.bits.unused k.bits.octets))
+encoded k =
+    der 48 (encoded_format k.format ++ der 3 (k.bits.unused ∷ cleared k.bits.unused k.bits.octets))
 
 -- The SHA-1 digest of the bits' octets, without the count of unused bits (RFC 6487 4.8.2).
 abbrev pub identifier : Digests → KeyValue → List ℕ

@@ -25,7 +25,8 @@ abbrev pub as_attribute : List ℕ × (Tree × Unit {0}) → Attribute
 as_attribute x = record { kind = x.0; value = x.1.0 }
 
 abbrev pub IsAttribute : Tree → Attribute → Type 0
-IsAttribute = As (Inside sequence_tag (Then (OctetsOf oid_tag IsOid) (Then Itself End))) as_attribute
+IsAttribute =
+    As (Inside sequence_tag (Then (OctetsOf oid_tag IsOid) (Then Itself End))) as_attribute
 
 -- RelativeDistinguishedName ::= SET OF AttributeTypeAndValue
 abbrev pub IsRelativeName : Tree → List Attribute → Type 0
@@ -58,13 +59,16 @@ pub record SpellsName (m : Mode) (text : List ℕ) (name : CapturedValue) : Type
 pub record IsPlain (strict : Bool) (kind : List ℕ) (a : Attribute) : Type 0 where
   pub kind_is : a.kind ≡ kind
   pub text : List ℕ
-  pub value_is : IsRestricted IsPrintable alone Der printable_string_tag a.value text ⊎ ((strict ≡ false) × IsRestricted IsUnicode encode_utf8 Der utf8_string_tag a.value text)
+  pub value_is : IsRestricted IsPrintable alone Der printable_string_tag a.value text
+      ⊎ ((strict ≡ false) × IsRestricted IsUnicode encode_utf8 Der utf8_string_tag a.value text)
 
 -- One commonName, at most one serialNumber, in any order, and nothing else (RFC 6487 4.4, 4.5).
 abbrev pub AreRpki : Bool → List Attribute → Type 0
 AreRpki strict [] = ⊥
 AreRpki strict (a ∷ []) = IsPlain strict common_name a
-AreRpki strict (a ∷ b ∷ []) = (IsPlain strict common_name a × IsPlain strict serial_number b) ⊎ (IsPlain strict serial_number a × IsPlain strict common_name b)
+AreRpki strict (a ∷ b ∷ []) =
+    (IsPlain strict common_name a × IsPlain strict serial_number b)
+    ⊎ (IsPlain strict serial_number a × IsPlain strict common_name b)
 AreRpki strict (a ∷ b ∷ c ∷ _) = ⊥
 
 pub record IsRpkiName (strict : Bool) (name : CapturedValue) : Type 0 where
@@ -75,8 +79,11 @@ pub record IsRpkiName (strict : Bool) (name : CapturedValue) : Type 0 where
 -- The lower-case hexadecimal digits of octets.
 abbrev pub hex_text : List ℕ → List ℕ
 hex_text [] = []
-hex_text (a ∷ v) = slice_index (codes "0123456789abcdef") (a / 16) ∷ slice_index (codes "0123456789abcdef") (a % 16) ∷ hex_text v
+hex_text (a ∷ v) = slice_index (codes "0123456789abcdef") (a / 16)
+    ∷ slice_index (codes "0123456789abcdef") (a % 16) ∷ hex_text v
 
 -- The name made from a key's identifier: a commonName of its 40 hexadecimal digits (this project's choice).
 abbrev pub subject_of : List ℕ → Tree
-subject_of key_identifier = sequence (constructed set_tag (more (sequence (primitive oid_tag common_name ∷ primitive printable_string_tag (hex_text key_identifier) ∷ [])) none) ∷ [])
+subject_of key_identifier = sequence (constructed set_tag
+    (more (sequence (primitive oid_tag common_name
+    ∷ primitive printable_string_tag (hex_text key_identifier) ∷ [])) none) ∷ [])

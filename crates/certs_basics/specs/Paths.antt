@@ -15,7 +15,8 @@ join uri name = (if ends_with_slash uri then uri else uri ++ 47 ∷ []) ++ name
 abbrev pub behind_slashes : ℕ → List ℕ → List ℕ
 behind_slashes n [] = []
 behind_slashes zero (c ∷ text) = c ∷ text
-behind_slashes (suc n) (c ∷ text) = if c == 47 then behind_slashes n text else behind_slashes (suc n) text
+behind_slashes (suc n) (c ∷ text) =
+    if c == 47 then behind_slashes n text else behind_slashes (suc n) text
 
 -- Less one slash at the end.
 abbrev pub without_slash : List ℕ → List ℕ

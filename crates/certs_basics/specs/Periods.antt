@@ -27,4 +27,5 @@ IsLater now n then = pos then ≡ (pos now +ℤ n)
 -- Between that moment and this, whichever is first.
 pub record IsBetween (now then : ℕ) (p : Period) : Type 0 where
   pub ordered : p.not_before ≤ p.not_after
-  pub ends : ((p.not_before ≡ now) × (p.not_after ≡ then)) ⊎ ((p.not_before ≡ then) × (p.not_after ≡ now))
+  pub ends : ((p.not_before ≡ now) × (p.not_after ≡ then))
+      ⊎ ((p.not_before ≡ then) × (p.not_after ≡ now))

@@ -8,4 +8,6 @@ Verdicts = KeyValue → Bool → List ℕ → List ℕ → Bool
 
 -- Each signature that is good by the first is good by the second.
 abbrev pub Within : Verdicts → Verdicts → Type 0
-Within v v' = (key : KeyValue) (has_null : Bool) (message signature : List ℕ) → v key has_null message signature ≡ true → v' key has_null message signature ≡ true
+Within v v' =
+    (key : KeyValue) (has_null : Bool) (message signature : List ℕ)
+    → v key has_null message signature ≡ true → v' key has_null message signature ≡ true

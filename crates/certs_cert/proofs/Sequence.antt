@@ -8,7 +8,7 @@ use Rattle.certs_cert.specs.bcder_content.declared.constructed.Constructed.{Cons
 use Rattle.certs_cert.specs.bcder_content.Contents.{ValuesLeft}
 use Rattle.certs_cert.specs.bcder_content.Exact.{Lacks, ReadsAs, ReadsOptAs}
 use Rattle.certs_cert.specs.bcder_content.Grammar.{Inside}
-use Rattle.certs_cert.specs.bcder_content.Ran.{RanOpt, RanOptCases, Reader}
+use Rattle.certs_cert.specs.bcder_content.ClosureReads.{ClosureReadsOpt, ClosureReadsOptCases, Reader}
 use Rattle.certs_cert.specs.bcder_content.Texts.{Wraps}
 use Rattle.certs_cert.proofs.of_bcder_content.Taking.{weaker}
 use Rattle.certs_x509.proofs.Octets.{EachTook, inside_took}
@@ -55,11 +55,11 @@ cert_octets old new (Ok c) t = took_cert t
 cert_octets old new (Err e) t = tt
 
 opt_cases : {F S E : Type 0} {rest : S → List ℕ} {g : Reader F (Constructed S) CertValue E} {op : F} (old new : ValuesLeft) (r : Result (Option CertValue) (DecodeError E))
-    → EachTook rest g op same AreCertOctets → RanOptCases rest g op old sequence_tag r new → IfOk r (λ found. IfSome found (λ c. TookOctets same SpellsCert old c new))
+    → EachTook rest g op same AreCertOctets → ClosureReadsOptCases rest g op old sequence_tag r new → IfOk r (λ found. IfSome found (λ c. TookOctets same SpellsCert old c new))
 opt_cases old new (Ok (Some c)) each h = took_cert (inside_took {P = AreCertOctets} each h)
 opt_cases old new (Ok None) each h = tt
 opt_cases old new (Err e) each h = tt
 
 pub cert_octets_opt : {F S E : Type 0} {rest : S → List ℕ} {g : Reader F (Constructed S) CertValue E} {op : F} {old new : ValuesLeft} {r : Result (Option CertValue) (DecodeError E)}
-    → EachTook rest g op same AreCertOctets → RanOpt rest g op old sequence_tag r new → IfOk r (λ found. IfSome found (λ c. TookOctets same SpellsCert old c new))
+    → EachTook rest g op same AreCertOctets → ClosureReadsOpt rest g op old sequence_tag r new → IfOk r (λ found. IfSome found (λ c. TookOctets same SpellsCert old c new))
 cert_octets_opt {old = old} {new} {r} each h = opt_cases old new r each h.cases

@@ -23,7 +23,8 @@ IsSubjectFor d key (Some given) name = name ≡ given
 IsSubjectFor d key None name = IsKeyName d key name
 
 -- These fields, with NULL in the algorithm, no other extensions, and all resources missing.
-abbrev pub fresh : ℕ → CapturedValue → Period → CapturedValue → KeyValue → List ℕ → KeyUsage → Overclaim → TbsValue
+abbrev pub fresh : ℕ → CapturedValue → Period → CapturedValue → KeyValue → List ℕ → KeyUsage
+    → Overclaim → TbsValue
 fresh serial issuer validity subject key key_identifier key_usage overclaim = record {
   serial = serial;
   has_null = true;

@@ -46,7 +46,8 @@ tail_fields x = (x.0, (x.1, ((x.2, tt), tt)))
 
 -- version, serialNumber, signature AlgorithmIdentifier, issuer Name, validity, and what comes after them (RFC 5280 4.1)
 abbrev pub ListedFields : Type 0
-ListedFields = (Unit {0} × Unit {0}) × (ℕ × (Bool × (CapturedValue × ((ℕ × (ℕ × Unit {0})) × TailFields))))
+ListedFields =
+    (Unit {0} × Unit {0}) × (ℕ × (Bool × (CapturedValue × ((ℕ × (ℕ × Unit {0})) × TailFields))))
 
 abbrev pub IsListedBody : Mode → Trees → ListedFields → Type 0
 IsListedBody m =
@@ -68,7 +69,8 @@ listed_fields x = ((tt, tt), (x.0, (x.1, (x.2, (as_fields x.3, tail_fields x.4))
 
 -- By their octets, from the outermost value down to the names, which are the very octets that stand there.
 abbrev pub SpellsTail : Mode → List ℕ → TailFields → Type 0
-SpellsTail m = Joins (SpellsName m) (Joins (SpellsOf m (IsKey m)) (Joins (SpellsOf m (Inside (context 3) (AreSlotted m))) NoOctets))
+SpellsTail m = Joins (SpellsName m) (Joins (SpellsOf m (IsKey m))
+    (Joins (SpellsOf m (Inside (context 3) (AreSlotted m))) NoOctets))
 
 abbrev pub SpellsListedBody : Mode → List ℕ → ListedFields → Type 0
 SpellsListedBody m =

@@ -19,11 +19,13 @@ CertFields = (List ℕ × TbsValue) × (Bool × (BitsValue × Unit {0}))
 -- tbsCertificate, signatureAlgorithm AlgorithmIdentifier, signatureValue BIT STRING, as values.
 pub record AreCert (m : Mode) (ts : Trees) (c : CertValue) : Type 0 where
   pub fields : CertFields
-  pub are : Then (Kept m (IsTbs m)) (Then IsAlgorithm (Then (OctetsOf bit_string_tag (IsBitString m)) End)) ts fields
+  pub are : Then (Kept m (IsTbs m)) (Then IsAlgorithm
+      (Then (OctetsOf bit_string_tag (IsBitString m)) End)) ts fields
   pub says : c ≡ as_cert m fields
 
 -- The fields by their octets.
 pub record AreCertOctets (m : Mode) (text : List ℕ) (c : CertValue) : Type 0 where
   pub fields : CertFields
-  pub are : Joins (WithOctets (SpellsTbs m)) (Joins (SpellsOf m IsAlgorithm) (Joins (SpellsOf m (OctetsOf bit_string_tag (IsBitString m))) NoOctets)) text fields
+  pub are : Joins (WithOctets (SpellsTbs m)) (Joins (SpellsOf m IsAlgorithm)
+      (Joins (SpellsOf m (OctetsOf bit_string_tag (IsBitString m))) NoOctets)) text fields
   pub says : c ≡ as_cert m fields

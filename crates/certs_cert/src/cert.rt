@@ -7,7 +7,7 @@ ghost use Rattle.certs_cert.specs.Written.{RefusesCert, WritesCert};
 
 use crate::tbs::TbsCert;
 use certs_extension::Captured;
-use certs_extension::claims::beside;
+use certs_extension::claims::with_value;
 use certs_extension::encode::EncodeError;
 use certs_x509::signed::{SignedData, SignedDataValues};
 use std::alloc::{AllocError, Global};
@@ -83,7 +83,7 @@ impl Clone for Cert {
 
     fn clone(&self) -> Result<Self, AllocError> {
         let signed = self.signed.clone()?;
-        let (signed, tbs) = beside(signed, self.tbs.clone())?;
+        let (signed, tbs) = with_value(signed, self.tbs.clone())?;
         Ok(Cert { signed, tbs })
     }
 }

@@ -5,7 +5,7 @@ ghost use Rattle.std.specs.Prelude.{◌≡◌, IfOk};
 use crate::tbs::TbsCert;
 use certs_extension::ExtendedKeyUsage;
 use certs_extension::access::{Https, Rsync};
-use certs_extension::claims::beside;
+use certs_extension::claims::with_value;
 use certs_extension::forms::{AsResources, IpResources};
 use certs_x509::signed::{Name, PublicKey};
 use std::alloc::AllocError;
@@ -80,8 +80,8 @@ fn named_copied(tbs: &TbsCert) -> Result<Named, AllocError>
     ensures { IfOk result (λ copy. copy ≡ (tbs.now.issuer, tbs.now.subject, tbs.now.key)) }
 {
     let issuer = tbs.issuer.clone()?;
-    let names = beside(issuer, tbs.subject.clone())?;
-    let ((issuer, subject), key) = beside(names, tbs.subject_public_key_info.clone())?;
+    let names = with_value(issuer, tbs.subject.clone())?;
+    let ((issuer, subject), key) = with_value(names, tbs.subject_public_key_info.clone())?;
     Ok((issuer, subject, key))
 }
 
@@ -90,7 +90,7 @@ fn issued_copied(tbs: &TbsCert) -> Result<Issued, AllocError>
     ensures { IfOk result (λ copy. copy ≡ (tbs.now.crl_uri, tbs.now.ca_issuer)) }
 {
     let crl_uri = rsync_copied(&tbs.crl_uri)?;
-    beside(crl_uri, rsync_copied(&tbs.ca_issuer))
+    with_value(crl_uri, rsync_copied(&tbs.ca_issuer))
 }
 
 // Copies of the places where the subject publishes.
@@ -103,9 +103,12 @@ fn published_copied(tbs: &TbsCert) -> Result<Published, AllocError>
     )) }
 {
     let repository = rsync_copied(&tbs.ca_repository)?;
-    let authority = beside(repository, rsync_copied(&tbs.rpki_manifest))?;
-    let files = beside(authority, rsync_copied(&tbs.signed_object))?;
-    let (((repository, manifest), object), notify) = beside(files, https_copied(&tbs.rpki_notify))?;
+    let authority = with_value(repository, rsync_copied(&tbs.rpki_manifest))?;
+    let files = with_value(authority, rsync_copied(&tbs.signed_object))?;
+    let (((repository, manifest), object), notify) = with_value(
+        files,
+        https_copied(&tbs.rpki_notify),
+    )?;
     Ok((repository, manifest, object, notify))
 }
 
@@ -122,7 +125,7 @@ fn places_copied(tbs: &TbsCert) -> Result<(Issued, Published), AllocError>
     )) }
 {
     let issued = issued_copied(tbs)?;
-    beside(issued, published_copied(tbs))
+    with_value(issued, published_copied(tbs))
 }
 
 // Copies of the resources.
@@ -130,8 +133,8 @@ fn numbers_copied(tbs: &TbsCert) -> Result<Numbers, AllocError>
     ensures { IfOk result (λ copy. copy ≡ (tbs.now.v4, tbs.now.v6, tbs.now.asn)) }
 {
     let v4 = ip_copied(&tbs.v4_resources)?;
-    let addresses = beside(v4, ip_copied(&tbs.v6_resources))?;
-    let ((v4, v6), asn) = beside(addresses, as_copied(&tbs.as_resources))?;
+    let addresses = with_value(v4, ip_copied(&tbs.v6_resources))?;
+    let ((v4, v6), asn) = with_value(addresses, as_copied(&tbs.as_resources))?;
     Ok((v4, v6, asn))
 }
 
@@ -192,9 +195,9 @@ impl Clone for TbsCert {
 
     fn clone(&self) -> Result<Self, AllocError> {
         let named = named_copied(self)?;
-        let holder = beside(named, purposes_copied(&self.extended_key_usage))?;
-        let placed = beside(holder, places_copied(self))?;
-        let copies = beside(placed, numbers_copied(self))?;
+        let holder = with_value(named, purposes_copied(&self.extended_key_usage))?;
+        let placed = with_value(holder, places_copied(self))?;
+        let copies = with_value(placed, numbers_copied(self))?;
         Ok(with_copies(self, copies))
     }
 }

@@ -24,7 +24,7 @@ pub mod usages;
 
 pub use cert::{Cert, CertValues};
 pub use certs_extension::access::{PublicKeyFormat, Rsync, grammar, paths};
-pub use certs_extension::claims::beside;
+pub use certs_extension::claims::with_value;
 pub use certs_extension::forms::{
     AsBlocks, ClaimError, InheritedAsResources, InheritedIpResources, InspectionError, IpBlocks,
     KeyUsage, Role, Time,

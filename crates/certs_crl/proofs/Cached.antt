@@ -2,7 +2,7 @@
 use Rattle.std.proofs.Common.{◌≡◌, ◌<◌, ◌↔◌, ℕ, Bool, IsTrue, List, Option, None, Some, sym, subst, length}
 use Rattle.std.specs.List.Sorted.{IsStrictlyIncreasing}
 use Rattle.std.specs.Prelude.{Contains, MatchOption, slice_index}
-use Rattle.certs_x509.specs.resources_chain.Rows.{Looks as ProbesAtMost}
+use Rattle.certs_x509.specs.resources_chain.Rows.{ProbesAtMost}
 use Rattle.certs_x509.specs.Listed.{IsListed}
 use Rattle.certs_x509.specs.certs_extension.CrlText.{CrlValue, IsOn, RevokedValue}
 use Rattle.certs_crl.specs.Caches.{IsCache, IsCached, IsLookedUp}

@@ -5,7 +5,7 @@ use Rattle.certs_crl.specs.bcder_tree.Tags.{context, sequence_tag}
 use Rattle.certs_crl.specs.bcder_tree.Tree.{Tree, Trees}
 use Rattle.certs_crl.specs.bcder_source.Errors.{OnContent}
 use Rattle.certs_crl.specs.bcder_source.declared.error.DecodeError.{DecodeError}
-use Rattle.certs_crl.specs.bcder_content.Grammar.{Inside, Then, Opt, End, Such}
+use Rattle.certs_crl.specs.bcder_content.Grammar.{Inside, Then, Opt, End, Where}
 use Rattle.certs_crl.specs.bcder_content.Kept.{CapturedValue}
 use Rattle.certs_crl.specs.bcder_content.Texts.{ReadsFront}
 use Rattle.certs_crl.specs.Fields.{ListOf, as_list}
@@ -28,7 +28,7 @@ abbrev pub IsOfList : Extension → Type 0
 IsOfList e = (e.kind ≡ id.authority_key_identifier) ⊎ (e.kind ≡ id.crl_number)
 
 abbrev pub IsListExtension : Mode → Tree → Extension → Type 0
-IsListExtension m = Such (IsExtension m) IsOfList
+IsListExtension m = Where (IsExtension m) IsOfList
 
 -- Nothing further.
 abbrev pub IsNoMore : Mode → Trees → Unit {0} → Type 0
@@ -66,7 +66,8 @@ abbrev pub ReadFields : Type 0
 ReadFields = Unit {0} × (Bool × (CapturedValue × (ℕ × (ℕ × TailFields))))
 
 abbrev pub IsReadBody : Mode → Trees → ReadFields → Type 0
-IsReadBody m = Then (IsVersion 1) (Then IsAlgorithm (Then (IsKeptName m) (Then IsTime (Then IsTime (IsTail m)))))
+IsReadBody m = Then (IsVersion 1) (Then IsAlgorithm
+    (Then (IsKeptName m) (Then IsTime (Then IsTime (IsTail m)))))
 
 abbrev pub IsRead : Mode → Tree → ReadFields → Type 0
 IsRead m = Inside sequence_tag (IsReadBody m)
@@ -83,7 +84,8 @@ pair_of f = f.1.1.1.1.1.1.0.0
 
 -- The identifier of the issuer's key and the list's number, once each (RFC 6487 5).
 pub record SaysBoth (all : List Extension) (key : List ℕ) (number : ℕ) : Type 0 where
-  pub key_is : IsOptional May IsAuthorityKeyIdentifier (of_kind id.authority_key_identifier all) (Some key)
+  pub key_is : IsOptional May IsAuthorityKeyIdentifier (of_kind id.authority_key_identifier all)
+      (Some key)
   pub number_is : IsOptional May IsSerial (of_kind id.crl_number all) (Some number)
 
 abbrev pub ReadsBoth : {E : Type 0} → List Extension → Result (List ℕ × ℕ) (DecodeError E) → Type 0
@@ -95,7 +97,8 @@ pub record AreFronts (key number : List ℕ) (x : List ℕ × ℕ) : Type 0 wher
   pub key_is : ReadsFront IsAuthorityKeyIdentifier key x.0
   pub number_is : ReadsFront IsSerial number x.1
 
-abbrev pub ReadsFronts : {E : Type 0} → List ℕ → List ℕ → Result (List ℕ × ℕ) (DecodeError E) → Type 0
+abbrev pub ReadsFronts : {E : Type 0} → List ℕ → List ℕ → Result (List ℕ × ℕ) (DecodeError E)
+    → Type 0
 ReadsFronts key number (Ok x) = AreFronts key number x
 ReadsFronts key number (Err e) = OnContent e ((x : List ℕ × ℕ) → AreFronts key number x → ⊥)
 
@@ -108,6 +111,8 @@ pub record SaysRead (f : ReadFields) (c : TbsListValue) : Type 0 where
   pub revoked : c.revoked ≡ entries f.1.1.1.1.1.0
   pub extensions : SaysBoth (list_of f.1.1.1.1.1.1.0.0) c.authority_key_identifier c.number
 
-abbrev pub Finishes : {E : Type 0} → ReadFields → Result (ListOf (List RevokedValue)) (DecodeError E) → Type 0
+abbrev pub Finishes : {E : Type 0} → ReadFields
+    → Result (ListOf (List RevokedValue)) (DecodeError E) → Type 0
 Finishes f (Ok t) = SaysRead f (as_list t)
-Finishes f (Err e) = OnContent e ((key : List ℕ) (number : ℕ) → SaysBoth (list_of (pair_of f)) key number → ⊥)
+Finishes f (Err e) =
+    OnContent e ((key : List ℕ) (number : ℕ) → SaysBoth (list_of (pair_of f)) key number → ⊥)

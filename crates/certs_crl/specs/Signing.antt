@@ -28,7 +28,8 @@ NotWritten c = NotWrittenIf (CanBeWritten c) (CanBeWritten c → ⊥)
 
 -- The list can be written, but for `TooLong`, which no signer answers: the signer is asked after that, and memory too.
 -- `refuses` says by which errors the signer refuses.
-abbrev pub SigningRefused : {E : Type 0} → (refuses : SigningError E → Type 0) → TbsListValue → SigningError E → Type 0
+abbrev pub SigningRefused : {E : Type 0} → (refuses : SigningError E → Type 0) → TbsListValue
+    → SigningError E → Type 0
 SigningRefused refuses c = SigningRefusedIf refuses (CanBeWritten c) (CanBeWritten c → ⊥)
 
 -- Why there are no octets of entries: nothing can be written of them in DER (RFC 5280 5.1.2.6), or there was no memory,

@@ -17,7 +17,8 @@ NoneUnder [] uri = Unit {0}
 NoneUnder (x ∷ xs) uri = (x.0 ≡ uri → ⊥) × NoneUnder xs uri
 
 -- The first list that came under that URI.
-pub record IsFirstUnder (crls : List (List ℕ × CrlValue)) (uri : List ℕ) (c : CrlValue) : Type 0 where
+pub record IsFirstUnder (crls : List (List ℕ × CrlValue)) (uri : List ℕ) (c : CrlValue)
+    : Type 0 where
   pub before : List (List ℕ × CrlValue)
   pub behind : List (List ℕ × CrlValue)
   pub whole : crls ≡ before ++ (uri, c) ∷ behind

@@ -17,6 +17,7 @@ CrlFields = (List ℕ × TbsListValue) × (Bool × (BitsValue × Unit {0}))
 -- tbsCertList, signatureAlgorithm AlgorithmIdentifier, signatureValue BIT STRING, as values; both algorithms agree (RFC 5280 5.1.1).
 pub record AreCrl (m : Mode) (ts : Trees) (c : CrlValue) : Type 0 where
   pub fields : CrlFields
-  pub are : Then (Kept m (IsTbsList m)) (Then IsAlgorithm (Then (OctetsOf bit_string_tag (IsBitString m)) End)) ts fields
+  pub are : Then (Kept m (IsTbsList m)) (Then IsAlgorithm
+      (Then (OctetsOf bit_string_tag (IsBitString m)) End)) ts fields
   pub says : c ≡ as_crl m fields
   pub agree : c.tbs.has_null ≡ c.signed.has_null

@@ -64,11 +64,14 @@ WritesRevoked all m text = ((all ≡ []) × NoText text) ⊎ WritesEntries all m
 
 -- revokedCertificates SEQUENCE OF, of what the entries say, in DER; nothing where there are none (RFC 5280 5.1.2.6).
 abbrev pub WritesListed : List RevokedValue → List ℕ → Type 0
-WritesListed all text = ((all ≡ []) × NoText text) ⊎ ((all ≢ []) × WritesWrapped Der sequence_tag (entry_list.writes all Der) text)
+WritesListed all text =
+    ((all ≡ []) × NoText text)
+    ⊎ ((all ≢ []) × WritesWrapped Der sequence_tag (entry_list.writes all Der) text)
 
 -- TBSCertList ::= SEQUENCE { version INTEGER (1), signature AlgorithmIdentifier, issuer Name, thisUpdate Time, nextUpdate
 -- Time, revokedCertificates OPTIONAL, crlExtensions [0] }, with a text of R for the entries (RFC 5280 5.1)
-pub record WritesFields (R : List ℕ → Type 0) (c : TbsListValue) (m : Mode) (text : List ℕ) : Type 0 where
+pub record WritesFields (R : List ℕ → Type 0) (c : TbsListValue) (m : Mode) (text : List ℕ)
+    : Type 0 where
   pub long : IsTwentyLong c.authority_key_identifier
   pub fields : WritesWrapped m sequence_tag
       (WritesBoth (WritesPlain m integer_tag (WritesUnsigned (2 ^ 8) 1))

@@ -11,7 +11,7 @@ use Rattle.certs_extension.specs.bcder_content.Captures.{rest_of}
 use Rattle.certs_extension.specs.bcder_content.Contents.{ValuesLeft}
 use Rattle.certs_extension.specs.bcder_content.Exact.{Lacks, ReadsAs}
 use Rattle.certs_extension.specs.bcder_content.Here.{here}
-use Rattle.certs_extension.specs.bcder_content.Ran.{Reader}
+use Rattle.certs_extension.specs.bcder_content.ClosureReads.{Reader}
 use Rattle.certs_extension.specs.resources_chain.declared.claims.Overclaim.{Overclaim}
 use Rattle.certs_extension.proofs.of_bcder_content.Decoding.{ValueEach, exact_decode}
 use Rattle.certs_extension.proofs.of_bcder_content.Fronts.{front_lacks, front_reads}

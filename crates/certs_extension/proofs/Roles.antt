@@ -1,6 +1,6 @@
 -- What follows from the profile of an authority.
 use Rattle.std.proofs.Common.{◌≡◌, inl, inr, Bool, true, List, [], ◌∷◌, Some, refl, subst}
-use Rattle.certs_extension.specs.declared.forms.Role.TheVariants.{Ta, Ca}
+use Rattle.certs_extension.specs.declared.forms.Role.TheVariants.{Ca}
 use Rattle.certs_extension.specs.declared.forms.InspectionError.TheVariants as test
 use Rattle.certs_extension.specs.certs_basics.Lists.{Mem, Each}
 use Rattle.certs_extension.specs.certs_basics.HandedIn.{Digests}
@@ -16,7 +16,3 @@ of_each P (y ∷ ys) x e (inr m) = of_each P ys x e.1 m
 -- Another authority's certificate says that it is one.
 pub ca_is_ca : (d : Digests) (strict : Bool) (c : CertValue) → Profile d strict Ca c → c.tbs.basic_ca ≡ Some true
 ca_is_ca d strict c p = of_each (Passes d strict Ca c) (tests Ca) test.NotCa p (inr (inr (inr (inr (inr (inr (inr (inl refl))))))))
-
--- An anchor's certificate says that it is an authority's.
-pub ta_is_ca : (d : Digests) (strict : Bool) (c : CertValue) → Profile d strict Ta c → c.tbs.basic_ca ≡ Some true
-ta_is_ca d strict c p = of_each (Passes d strict Ta c) (tests Ta) test.NotCa p (inr (inr (inr (inr (inr (inr (inr (inl refl))))))))

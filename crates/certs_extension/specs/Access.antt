@@ -32,8 +32,10 @@ methods = id.ca_repository ∷ id.rpki_manifest ∷ id.signed_object ∷ id.rpki
 
 -- What stands after a method: of one of the four exactly one name, of another anything.
 pub data AreLocation : Mode → List ℕ → Trees → Option (List ℕ) → Type 0 where
-  of_known : {m : Mode} {method : List ℕ} {ts : Trees} {text : List ℕ} → Mem methods method → Then (IsName m) End ts (text, tt) → AreLocation m method ts (Some text)
-  of_other : {m : Mode} {method : List ℕ} {ts : Trees} → (Mem methods method → ⊥) → AreLocation m method ts None
+  of_known : {m : Mode} {method : List ℕ} {ts : Trees} {text : List ℕ} → Mem methods method
+      → Then (IsName m) End ts (text, tt) → AreLocation m method ts (Some text)
+  of_other : {m : Mode} {method : List ℕ} {ts : Trees} → (Mem methods method → ⊥)
+      → AreLocation m method ts None
 
 -- AccessDescription ::= SEQUENCE { accessMethod OBJECT IDENTIFIER, accessLocation [6] IMPLICIT IA5String } (RFC 5280 4.2.2.2)
 abbrev pub as_entry : List ℕ × Option (List ℕ) → Entry

@@ -37,28 +37,39 @@ pub record RefusedValue : Type 0 where
 
 abbrev pub FailsAnchor : Digests → Verdicts → Bool → ℕ → CertValue → Fault → Type 0
 FailsAnchor d good strict now c (inspected t) = FailsFirst d strict Ta c t
-FailsAnchor d good strict now c (verified t) = Profile d strict Ta c × FirstFailing (PassesAt good now c nothing c) anchor_tests t
+FailsAnchor d good strict now c (verified t) =
+    Profile d strict Ta c × FirstFailing (PassesAt good now c nothing c) anchor_tests t
 FailsAnchor d good strict now c wants_memory = Unit {0}
 
-abbrev pub ValidatesAnchor : Digests → Verdicts → Bool → ℕ → CertValue → Result HolderValue RefusedValue → Type 0
+abbrev pub ValidatesAnchor : Digests → Verdicts → Bool → ℕ → CertValue
+    → Result HolderValue RefusedValue → Type 0
 ValidatesAnchor d good strict now c (Ok h) = AcceptsAnchor d good strict now c h
 ValidatesAnchor d good strict now c (Err r) = (r.cert ≡ c) × FailsAnchor d good strict now c r.fault
 
-abbrev pub FailsIssued : Digests → Verdicts → Bool → Role → ℕ → HolderValue → CertValue → Fault → Type 0
+abbrev pub FailsIssued : Digests → Verdicts → Bool → Role → ℕ → HolderValue → CertValue → Fault
+    → Type 0
 FailsIssued d good strict role now issuer c (inspected t) = FailsFirst d strict role c t
-FailsIssued d good strict role now issuer c (verified t) = Profile d strict role c × FirstFailing (PassesAt good now issuer.cert (held_by issuer) c) issued_tests t
+FailsIssued d good strict role now issuer c (verified t) =
+    Profile d strict role c
+    × FirstFailing (PassesAt good now issuer.cert (held_by issuer) c) issued_tests t
 FailsIssued d good strict role now issuer c wants_memory = Unit {0}
 
-abbrev pub ValidatesIssued : Digests → Verdicts → Bool → Role → ℕ → HolderValue → CertValue → Result HolderValue RefusedValue → Type 0
-ValidatesIssued d good strict role now issuer c (Ok h) = AcceptsIssued d good strict role now issuer c h
-ValidatesIssued d good strict role now issuer c (Err r) = (r.cert ≡ c) × FailsIssued d good strict role now issuer c r.fault
+abbrev pub ValidatesIssued : Digests → Verdicts → Bool → Role → ℕ → HolderValue → CertValue
+    → Result HolderValue RefusedValue → Type 0
+ValidatesIssued d good strict role now issuer c (Ok h) =
+    AcceptsIssued d good strict role now issuer c h
+ValidatesIssued d good strict role now issuer c (Err r) =
+    (r.cert ≡ c) × FailsIssued d good strict role now issuer c r.fault
 
 -- Why a certificate isn't verified below an issuer, where its profile isn't looked at.
 abbrev pub FailsVerified : Verdicts → ℕ → HolderValue → CertValue → Fault → Type 0
 FailsVerified good now issuer c (inspected t) = ⊥
-FailsVerified good now issuer c (verified t) = FirstFailing (PassesAt good now issuer.cert (held_by issuer) c) issued_tests t
+FailsVerified good now issuer c (verified t) =
+    FirstFailing (PassesAt good now issuer.cert (held_by issuer) c) issued_tests t
 FailsVerified good now issuer c wants_memory = Unit {0}
 
-abbrev pub VerifiesIssued : Verdicts → ℕ → HolderValue → CertValue → Result HolderValue RefusedValue → Type 0
-VerifiesIssued good now issuer c (Ok h) = IsIssuedAt good now issuer.cert (held_by issuer) c × HoldsBelow (held_by issuer) c h
+abbrev pub VerifiesIssued : Verdicts → ℕ → HolderValue → CertValue → Result HolderValue RefusedValue
+    → Type 0
+VerifiesIssued good now issuer c (Ok h) =
+    IsIssuedAt good now issuer.cert (held_by issuer) c × HoldsBelow (held_by issuer) c h
 VerifiesIssued good now issuer c (Err r) = (r.cert ≡ c) × FailsVerified good now issuer c r.fault

@@ -30,8 +30,10 @@ use Rattle.certs_extension.specs.certs_basics.Identifiers as id
 
 -- The extensions that are known; all others are unknown, those for the other policy's resources too.
 abbrev pub known : List (List ℕ)
-known = id.basic_constraints ∷ id.subject_key_identifier ∷ id.authority_key_identifier ∷ id.key_usage ∷ id.extended_key_usage
-    ∷ id.crl_distribution_points ∷ id.authority_info_access ∷ id.subject_info_access ∷ id.certificate_policies
+known = id.basic_constraints ∷ id.subject_key_identifier ∷ id.authority_key_identifier
+    ∷ id.key_usage ∷ id.extended_key_usage
+    ∷ id.crl_distribution_points ∷ id.authority_info_access ∷ id.subject_info_access
+    ∷ id.certificate_policies
     ∷ ip_octets Refuse ∷ as_octets Refuse ∷ ip_octets Trim ∷ as_octets Trim ∷ []
 
 -- An unknown extension isn't critical; its octets aren't read (RFC 5280 4.2).
@@ -45,7 +47,8 @@ other Trim = Refuse
 -- No extension, and both families are missing; or one, critical or not, that says them.
 abbrev pub AreIpResources : List Extension → Choice → Choice → Type 0
 AreIpResources [] v4 v6 = (v4 ≡ Missing) × (v6 ≡ Missing)
-AreIpResources (e ∷ []) v4 v6 = ReadsFront (IsIpAddrBlocks Der) e.octets (record { v4 = v4; v6 = v6 })
+AreIpResources (e ∷ []) v4 v6 =
+    ReadsFront (IsIpAddrBlocks Der) e.octets (record { v4 = v4; v6 = v6 })
 AreIpResources (e ∷ f ∷ es) v4 v6 = ⊥
 
 -- No extension, and AS numbers are missing; or one, critical or not, that says them.
@@ -65,19 +68,26 @@ pub record HasResources (all : List Extension) (c : TbsValue) : Type 0 where
 
 -- No extension for access and no URIs, or one that says them.
 abbrev pub IsAccess : List Extension → AccessValue → Type 0
-IsAccess all a = (IsOptional MustNot IsSubjectAccess (of_kind id.subject_info_access all) None × (a ≡ no_access))
+IsAccess all a =
+    (IsOptional MustNot IsSubjectAccess (of_kind id.subject_info_access all) None × (a ≡ no_access))
     ⊎ IsOptional MustNot IsSubjectAccess (of_kind id.subject_info_access all) (Some a)
 
 -- All extensions: known ones at most once each, critical as they must be, and unknown ones not critical (RFC 6487 4.8).
 pub record HasExtensions (all : List Extension) (c : TbsValue) : Type 0 where
   pub skipped : Each IsKnownOrSkipped all
-  pub basic_constraints : IsOptional Must IsBasicConstraints (of_kind id.basic_constraints all) c.basic_ca
-  pub subject_key_identifier : IsOptional MustNot IsSubjectKeyIdentifier (of_kind id.subject_key_identifier all) (Some c.subject_key_identifier)
-  pub authority_key_identifier : IsOptional MustNot IsAuthorityKeyIdentifier (of_kind id.authority_key_identifier all) c.authority_key_identifier
+  pub basic_constraints : IsOptional Must IsBasicConstraints
+      (of_kind id.basic_constraints all) c.basic_ca
+  pub subject_key_identifier : IsOptional MustNot IsSubjectKeyIdentifier
+      (of_kind id.subject_key_identifier all) (Some c.subject_key_identifier)
+  pub authority_key_identifier : IsOptional MustNot IsAuthorityKeyIdentifier
+      (of_kind id.authority_key_identifier all) c.authority_key_identifier
   pub key_usage : IsOptional Must IsKeyUsage (of_kind id.key_usage all) (Some c.key_usage)
-  pub extended_key_usage : IsOptional MustNot IsExtendedKeyUsage (of_kind id.extended_key_usage all) c.extended_key_usage
-  pub crl_distribution : IsOptional MustNot IsCrlDistribution (of_kind id.crl_distribution_points all) c.crl_uri
-  pub authority_access : IsOptional MustNot IsAuthorityAccess (of_kind id.authority_info_access all) c.ca_issuer
+  pub extended_key_usage : IsOptional MustNot IsExtendedKeyUsage
+      (of_kind id.extended_key_usage all) c.extended_key_usage
+  pub crl_distribution : IsOptional MustNot IsCrlDistribution
+      (of_kind id.crl_distribution_points all) c.crl_uri
+  pub authority_access : IsOptional MustNot IsAuthorityAccess
+      (of_kind id.authority_info_access all) c.ca_issuer
   pub subject_access : IsAccess all c.access
   pub policies : IsOptional Must IsPolicies (of_kind id.certificate_policies all) (Some c.overclaim)
   pub resources : HasResources all c
@@ -89,7 +99,9 @@ IsVersion n = OctetsOf integer_tag (IsValue (IsUnsigned (2 ^ 8)) n)
 -- TBSCertificate ::= SEQUENCE { version [0] EXPLICIT INTEGER (2), serialNumber, signature AlgorithmIdentifier, issuer Name,
 --   validity, subject Name, subjectPublicKeyInfo, extensions [3] EXPLICIT SEQUENCE OF Extension } (RFC 5280 4.1.2, RFC 6487 4.1 to 4.8)
 abbrev pub Fields : Type 0
-Fields = (Unit {0} × Unit {0}) × (ℕ × (Bool × (CapturedValue × ((ℕ × (ℕ × Unit {0})) × (CapturedValue × (KeyValue × ((List Extension × Unit {0}) × Unit {0})))))))
+Fields = (Unit {0} × Unit {0}) × (ℕ × (Bool × (CapturedValue
+    × ((ℕ × (ℕ × Unit {0})) × (CapturedValue ×
+    (KeyValue × ((List Extension × Unit {0}) × Unit {0})))))))
 
 abbrev pub IsTbsBody : Mode → Trees → Fields → Type 0
 IsTbsBody m =
@@ -100,7 +112,8 @@ IsTbsBody m =
     (Then IsValidity
     (Then (IsKeptName m)
     (Then (IsKey m)
-    (Then (Inside (context 3) (Then (Inside sequence_tag (Gathers (IsExtension m) (λ all same. all ≡ same))) End))
+    (Then (Inside (context 3) (Then (Inside sequence_tag
+    (Gathers (IsExtension m) (λ all same. all ≡ same))) End))
     End)))))))
 
 pub record SaysTbs (f : Fields) (c : TbsValue) : Type 0 where
@@ -135,7 +148,8 @@ as_cert m x = record { signed = as_signed m x; tbs = x.0.1 }
 -- Certificate ::= SEQUENCE { tbsCertificate, signatureAlgorithm AlgorithmIdentifier, signatureValue BIT STRING }, as a value.
 abbrev pub IsCert : Mode → Tree → CertValue → Type 0
 IsCert m =
-    As (Inside sequence_tag (Then (Kept m (IsTbs m)) (Then IsAlgorithm (Then (OctetsOf bit_string_tag (IsBitString m)) End)))) (as_cert m)
+    As (Inside sequence_tag (Then (Kept m (IsTbs m))
+    (Then IsAlgorithm (Then (OctetsOf bit_string_tag (IsBitString m)) End)))) (as_cert m)
 
 -- A certificate's fields by their octets, from the outermost value down to what is kept: names and message are the very
 -- octets that stand there, which in BER a value doesn't tell.
@@ -149,7 +163,8 @@ SpellsFields m =
     (Joins (SpellsOf m IsValidity)
     (Joins (SpellsName m)
     (Joins (SpellsOf m (IsKey m))
-    (Joins (SpellsOf m (Inside (context 3) (Then (Inside sequence_tag (Gathers (IsExtension m) (λ all same. all ≡ same))) End)))
+    (Joins (SpellsOf m (Inside (context 3) (Then
+    (Inside sequence_tag (Gathers (IsExtension m) (λ all same. all ≡ same))) End)))
     NoOctets))))))))
 
 pub record SpellsTbs (m : Mode) (text : List ℕ) (c : TbsValue) : Type 0 where
@@ -158,8 +173,11 @@ pub record SpellsTbs (m : Mode) (text : List ℕ) (c : TbsValue) : Type 0 where
   pub says : SaysTbs fields c
 
 -- What is signed, the algorithm and the signature.
-abbrev pub SpellsSigned : {A : Type 0} → Mode → (List ℕ → A → Type 0) → List ℕ → (List ℕ × A) × (Bool × (BitsValue × Unit {0})) → Type 0
-SpellsSigned m P = Wraps m sequence_tag (Joins (WithOctets P) (Joins (SpellsOf m IsAlgorithm) (Joins (SpellsOf m (OctetsOf bit_string_tag (IsBitString m))) NoOctets)))
+abbrev pub SpellsSigned : {A : Type 0} → Mode → (List ℕ → A → Type 0) → List ℕ → (List ℕ × A)
+    × (Bool × (BitsValue × Unit {0})) → Type 0
+SpellsSigned m P = Wraps m sequence_tag (Joins (WithOctets P)
+    (Joins (SpellsOf m IsAlgorithm) (Joins (SpellsOf m
+    (OctetsOf bit_string_tag (IsBitString m))) NoOctets)))
 
 pub record SpellsCert (m : Mode) (text : List ℕ) (c : CertValue) : Type 0 where
   pub fields : (List ℕ × TbsValue) × (Bool × (BitsValue × Unit {0}))

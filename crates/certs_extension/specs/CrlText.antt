@@ -58,13 +58,15 @@ entries (Some all) = all
 -- Authority key identifier and CRL number, once each, in any order, critical or not, and no other (RFC 6487 5).
 pub record HasListExtensions (all : List Extension) (c : TbsListValue) : Type 0 where
   pub count : length all ≡ 2
-  pub authority_key_identifier : IsOptional May IsAuthorityKeyIdentifier (of_kind id.authority_key_identifier all) (Some c.authority_key_identifier)
+  pub authority_key_identifier : IsOptional May IsAuthorityKeyIdentifier
+      (of_kind id.authority_key_identifier all) (Some c.authority_key_identifier)
   pub number : IsOptional May IsSerial (of_kind id.crl_number all) (Some c.number)
 
 -- TBSCertList ::= SEQUENCE { version INTEGER (1), signature AlgorithmIdentifier, issuer Name, thisUpdate Time, nextUpdate Time,
 --   revokedCertificates OPTIONAL, crlExtensions [0] EXPLICIT SEQUENCE OF Extension } (RFC 5280 5.1.2)
 abbrev pub ListFields : Type 0
-ListFields = Unit {0} × (Bool × (CapturedValue × (ℕ × (ℕ × (Option (List RevokedValue) × ((List Extension × Unit {0}) × Unit {0}))))))
+ListFields = Unit {0} × (Bool × (CapturedValue
+    × (ℕ × (ℕ × (Option (List RevokedValue) × ((List Extension × Unit {0}) × Unit {0}))))))
 
 abbrev pub IsTbsListBody : Mode → Trees → ListFields → Type 0
 IsTbsListBody m =
@@ -74,7 +76,8 @@ IsTbsListBody m =
     (Then IsTime
     (Then IsTime
     (Opt sequence_tag AreRevoked
-    (Then (Inside (context 0) (Then (Inside sequence_tag (Gathers (IsExtension m) (λ all same. all ≡ same))) End))
+    (Then (Inside (context 0) (Then (Inside sequence_tag
+    (Gathers (IsExtension m) (λ all same. all ≡ same))) End))
     End))))))
 
 pub record SaysList (f : ListFields) (c : TbsListValue) : Type 0 where
@@ -96,7 +99,8 @@ abbrev pub as_crl : Mode → (List ℕ × TbsListValue) × (Bool × (BitsValue �
 as_crl m x = record { signed = as_signed m x; tbs = x.0.1; caches = false }
 
 pub record IsCrl (m : Mode) (t : Tree) (c : CrlValue) : Type 0 where
-  pub is : As (Inside sequence_tag (Then (Kept m (IsTbsList m)) (Then IsAlgorithm (Then (OctetsOf bit_string_tag (IsBitString m)) End))))
+  pub is : As (Inside sequence_tag (Then (Kept m (IsTbsList m))
+      (Then IsAlgorithm (Then (OctetsOf bit_string_tag (IsBitString m)) End))))
       (as_crl m) t c
   pub agree : c.tbs.has_null ≡ c.signed.has_null
 
@@ -111,7 +115,8 @@ SpellsListFields m =
     (Then IsTime
     (Then IsTime
     (Opt sequence_tag AreRevoked
-    (Then (Inside (context 0) (Then (Inside sequence_tag (Gathers (IsExtension m) (λ all same. all ≡ same))) End))
+    (Then (Inside (context 0) (Then (Inside sequence_tag
+    (Gathers (IsExtension m) (λ all same. all ≡ same))) End))
     End))))))))
 
 pub record SpellsTbsList (m : Mode) (text : List ℕ) (c : TbsListValue) : Type 0 where

@@ -32,7 +32,8 @@ IsNamed None octets = Mem known octets → ⊥
 
 -- The identifiers of what keys are and are for; of where things are found, and of policies; and of resources.
 abbrev pub key_kinds : List (List ℕ)
-key_kinds = id.basic_constraints ∷ id.subject_key_identifier ∷ id.authority_key_identifier ∷ id.key_usage
+key_kinds =
+    id.basic_constraints ∷ id.subject_key_identifier ∷ id.authority_key_identifier ∷ id.key_usage
     ∷ id.extended_key_usage ∷ []
 
 abbrev pub place_kinds : List (List ℕ)

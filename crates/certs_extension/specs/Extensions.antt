@@ -31,7 +31,8 @@ abbrev pub ExtensionFields : Type 0
 ExtensionFields = List ℕ × (Bool × (List ℕ × Unit {0}))
 
 abbrev pub IsExtensionBody : Mode → Trees → ExtensionFields → Type 0
-IsExtensionBody m = Then (OctetsOf oid_tag IsOid) (Default boolean_tag (OctetsOf boolean_tag (IsBoolean m)) false (Then (IsOctetString m) End))
+IsExtensionBody m = Then (OctetsOf oid_tag IsOid)
+    (Default boolean_tag (OctetsOf boolean_tag (IsBoolean m)) false (Then (IsOctetString m) End))
 
 abbrev pub as_extension : ExtensionFields → Extension
 as_extension f = record { kind = f.0; critical = f.1.0; octets = f.1.1.0 }
@@ -56,7 +57,8 @@ of_kind kind [] = []
 of_kind kind (e ∷ es) = if bytes_eq e.kind kind then e ∷ of_kind kind es else of_kind kind es
 
 -- None of the list, and no value; or one, met by its need, whose octets have a value of Q in front.
-abbrev pub IsOptional : {A : Type 0} → Need → (Tree → A → Type 0) → List Extension → Option A → Type 0
+abbrev pub IsOptional : {A : Type 0} → Need → (Tree → A → Type 0) → List Extension → Option A
+    → Type 0
 IsOptional need Q [] None = Unit {0}
 IsOptional need Q [] (Some x) = ⊥
 IsOptional need Q (e ∷ []) None = ⊥

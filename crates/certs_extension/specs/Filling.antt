@@ -20,7 +20,8 @@ use Rattle.certs_extension.specs.ExtensionKinds.{IsNamed, octets_of}
 use Rattle.certs_extension.specs.Slots.{AreFamilies, AreSlots}
 
 -- The slot was empty, the need is met, and what the octets begin with is there.
-pub record Fills {A : Type 0} (need : Need) (Q : Tree → A → Type 0) (e : Extension) (old new : Option A) : Type 0 where
+pub record Fills {A : Type 0} (need : Need) (Q : Tree → A → Type 0) (e : Extension)
+    (old new : Option A) : Type 0 where
   pub empty : old ≡ None
   pub met : Meets need e.critical
   pub value : A
@@ -28,7 +29,8 @@ pub record Fills {A : Type 0} (need : Need) (Q : Tree → A → Type 0) (e : Ext
   pub reads : ReadsFront Q e.octets value
 
 -- Why it wasn't filled: the first test that failed, never one after the list.
-abbrev pub CannotFill : {A : Type 0} → Need → (Tree → A → Type 0) → Extension → Option A → ExtensionError → Type 0
+abbrev pub CannotFill : {A : Type 0} → Need → (Tree → A → Type 0) → Extension → Option A
+    → ExtensionError → Type 0
 CannotFill need Q e old Duplicate = old ≡ None → ⊥
 CannotFill need Q e old Criticality = (old ≡ None) × (Meets need e.critical → ⊥)
 CannotFill need Q e old UnknownCritical = ⊥
@@ -42,15 +44,18 @@ CannotFill need Q e old MissingKeyUsage = ⊥
 CannotFill need Q e old Memory = IsRead need e old
 
 -- A value under that policy.
-pub record Under {A : Type 0} (policy : Overclaim) (Q : Tree → A → Type 0) (t : Tree) (x : Overclaim × A) : Type 0 where
+pub record Under {A : Type 0} (policy : Overclaim) (Q : Tree → A → Type 0) (t : Tree)
+    (x : Overclaim × A) : Type 0 where
   pub policy_is : x.0 ≡ policy
   pub is : Q t x.1
 
 -- Why an extension of that kind is refused: its slot, where it has one, decides; an unknown one is critical.
 abbrev pub CannotPut : Kind → Extension → Slots → ExtensionError → Type 0
 CannotPut kinds.BasicConstraints e s = CannotFill Must IsBasicConstraints e s.basic_ca
-CannotPut kinds.SubjectKeyIdentifier e s = CannotFill MustNot IsSubjectKeyIdentifier e s.subject_key_identifier
-CannotPut kinds.AuthorityKeyIdentifier e s = CannotFill MustNot IsAuthorityKeyIdentifier e s.authority_key_identifier
+CannotPut kinds.SubjectKeyIdentifier e s =
+    CannotFill MustNot IsSubjectKeyIdentifier e s.subject_key_identifier
+CannotPut kinds.AuthorityKeyIdentifier e s =
+    CannotFill MustNot IsAuthorityKeyIdentifier e s.authority_key_identifier
 CannotPut kinds.KeyUsage e s = CannotFill Must IsKeyUsage e s.key_usage
 CannotPut kinds.ExtendedKeyUsage e s = CannotFill MustNot IsExtendedKeyUsage e s.extended_key_usage
 CannotPut kinds.CrlDistributionPoints e s = CannotFill MustNot IsCrlDistribution e s.crl_uri
@@ -75,7 +80,9 @@ Adds e old new = (all : List Extension) → AreSlots all old → AreSlots (all +
 
 -- No list in which the extension stands after one of these slots has any slots.
 abbrev pub Refuses : Extension → Slots → Type 0
-Refuses e old = (all behind : List Extension) (s : Slots) → AreSlots all old → AreSlots (all ++ (e ∷ behind)) s → ⊥
+Refuses e old =
+    (all behind : List Extension) (s : Slots) → AreSlots all old → AreSlots (all ++ (e ∷ behind)) s
+    → ⊥
 
 -- Whether an extension with that identifier is one of that kind.
 abbrev pub is_of : Option (List ℕ) → List ℕ → Bool
@@ -83,11 +90,13 @@ is_of (Some named) kind = bytes_eq named kind
 is_of None kind = false
 
 -- Its slot is filled, or stays as it is.
-abbrev pub Sets : {A : Type 0} → Bool → Need → (Tree → A → Type 0) → Extension → Option A → Option A → Type 0
+abbrev pub Sets : {A : Type 0} → Bool → Need → (Tree → A → Type 0) → Extension → Option A → Option A
+    → Type 0
 Sets true need Q e old new = Fills need Q e old new
 Sets false need Q e old new = new ≡ old
 
-abbrev pub SetsUnder : {A : Type 0} → Bool → Bool → (Tree → A → Type 0) → Extension → Option (Overclaim × A) → Option (Overclaim × A) → Type 0
+abbrev pub SetsUnder : {A : Type 0} → Bool → Bool → (Tree → A → Type 0) → Extension
+    → Option (Overclaim × A) → Option (Overclaim × A) → Type 0
 SetsUnder true second Q e old new = Fills May (Under Refuse Q) e old new
 SetsUnder false true Q e old new = Fills May (Under Trim Q) e old new
 SetsUnder false false Q e old new = new ≡ old
@@ -109,5 +118,7 @@ pub record Puts (named : Option (List ℕ)) (e : Extension) (old new : Slots) : 
   pub ca_issuer : Sets (is_of named id.authority_info_access) MustNot IsAuthorityAccess e old.ca_issuer new.ca_issuer
   pub access : Sets (is_of named id.subject_info_access) MustNot IsSubjectAccess e old.access new.access
   pub policy : Sets (is_of named id.certificate_policies) Must IsPolicies e old.policy new.policy
-  pub ip : SetsUnder (is_of named (ip_octets Refuse)) (is_of named (ip_octets Trim)) (AreFamilies Der) e old.ip new.ip
-  pub asn : SetsUnder (is_of named (as_octets Refuse)) (is_of named (as_octets Trim)) IsAsResources e old.asn new.asn
+  pub ip : SetsUnder (is_of named (ip_octets Refuse)) (is_of named (ip_octets Trim))
+      (AreFamilies Der) e old.ip new.ip
+  pub asn : SetsUnder (is_of named (as_octets Refuse))
+      (is_of named (as_octets Trim)) IsAsResources e old.asn new.asn

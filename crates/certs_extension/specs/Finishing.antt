@@ -84,8 +84,13 @@ IsListFault s UnknownCritical = ⊥
 IsListFault s BadValue = ⊥
 IsListFault s MissingResources = (s.ip ≡ None) × (s.asn ≡ None)
 IsListFault s MissingPolicy = HasSome s × (s.policy ≡ None)
-IsListFault s WrongIpResources = (policy : Overclaim) × HasPolicy s policy × (Stands policy s.ip → ⊥)
-IsListFault s WrongAsResources = (policy : Overclaim) × HasPolicy s policy × Stands policy s.ip × (Stands policy s.asn → ⊥)
-IsListFault s MissingSubjectKeyIdentifier = (policy : Overclaim) × HasClaims s policy × (s.subject_key_identifier ≡ None)
-IsListFault s MissingKeyUsage = (policy : Overclaim) × HasClaims s policy × (s.subject_key_identifier ≢ None) × (s.key_usage ≡ None)
+IsListFault s WrongIpResources =
+    (policy : Overclaim) × HasPolicy s policy × (Stands policy s.ip → ⊥)
+IsListFault s WrongAsResources =
+    (policy : Overclaim) × HasPolicy s policy × Stands policy s.ip × (Stands policy s.asn → ⊥)
+IsListFault s MissingSubjectKeyIdentifier =
+    (policy : Overclaim) × HasClaims s policy × (s.subject_key_identifier ≡ None)
+IsListFault s MissingKeyUsage =
+    (policy : Overclaim) × HasClaims s policy × (s.subject_key_identifier ≢ None)
+    × (s.key_usage ≡ None)
 IsListFault s Memory = ⊥

@@ -11,7 +11,6 @@ pub mod CertText
 pub mod Profiles
 pub mod Verified
 pub mod CrlText
-pub mod Built
 pub mod Calls
 pub mod Spellings
 pub mod Raw

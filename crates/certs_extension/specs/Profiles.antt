@@ -19,20 +19,26 @@ use Rattle.certs_extension.specs.certs_basics.Identifiers as id
 
 -- The tests of all but router certificates (RFC 6487 4.3 to 4.7, 4.8.2, 4.8.5).
 abbrev pub basics : List InspectionError
-basics = test.AlgorithmMismatch ∷ test.BadIssuer ∷ test.BadSubject ∷ test.KeyAlgorithm ∷ test.KeyIdMismatch ∷ test.ExtendedKeyUsagePresent ∷ []
+basics = test.AlgorithmMismatch ∷ test.BadIssuer ∷ test.BadSubject ∷ test.KeyAlgorithm
+    ∷ test.KeyIdMismatch ∷ test.ExtendedKeyUsagePresent ∷ []
 
 -- What makes an authority (RFC 6487 4.8.1, 4.8.4, 4.8.8.1).
 abbrev pub authority : List InspectionError
-authority = test.BasicConstraintsMissing ∷ test.NotCa ∷ test.WrongKeyUsage ∷ test.RepositoryMissing ∷ test.ManifestMissing ∷ test.ManifestNotChild ∷ test.SignedObjectPresent ∷ []
+authority = test.BasicConstraintsMissing ∷ test.NotCa ∷ test.WrongKeyUsage ∷ test.RepositoryMissing
+    ∷ test.ManifestMissing ∷ test.ManifestNotChild ∷ test.SignedObjectPresent ∷ []
 
 -- The tests of a role, in their order.
 abbrev pub tests : Role → List InspectionError
 tests Ta = basics ++ authority ++ test.AuthorityKeyMismatch ∷ test.CrlPresent ∷ test.AiaPresent ∷ []
 tests Ca = basics ++ authority ++ test.CrlMissing ∷ []
-tests Ee = basics ++ test.CrlMissing ∷ test.BasicConstraintsPresent ∷ test.WrongKeyUsage ∷ test.RepositoryPresent ∷ test.ManifestPresent ∷ test.SignedObjectMissing ∷ []
-tests DetachedEe = basics ++ test.CrlMissing ∷ test.BasicConstraintsPresent ∷ test.WrongKeyUsage ∷ test.RepositoryPresent ∷ test.ManifestPresent ∷ []
-tests Router = test.AlgorithmMismatch ∷ test.BadIssuer ∷ test.BadSubject ∷ test.KeyAlgorithm ∷ test.BasicConstraintsPresent ∷ test.KeyIdMismatch ∷ test.WrongKeyUsage
-    ∷ test.ExtendedKeyUsageMissing ∷ test.NotRouterUsage ∷ test.CrlMissing ∷ test.SiaPresent ∷ test.IpResourcesPresent ∷ test.AsResourcesMissing ∷ test.AsResourcesInherited ∷ []
+tests Ee = basics ++ test.CrlMissing ∷ test.BasicConstraintsPresent ∷ test.WrongKeyUsage
+    ∷ test.RepositoryPresent ∷ test.ManifestPresent ∷ test.SignedObjectMissing ∷ []
+tests DetachedEe = basics ++ test.CrlMissing ∷ test.BasicConstraintsPresent ∷ test.WrongKeyUsage
+    ∷ test.RepositoryPresent ∷ test.ManifestPresent ∷ []
+tests Router = test.AlgorithmMismatch ∷ test.BadIssuer ∷ test.BadSubject ∷ test.KeyAlgorithm
+    ∷ test.BasicConstraintsPresent ∷ test.KeyIdMismatch ∷ test.WrongKeyUsage
+    ∷ test.ExtendedKeyUsageMissing ∷ test.NotRouterUsage ∷ test.CrlMissing ∷ test.SiaPresent
+    ∷ test.IpResourcesPresent ∷ test.AsResourcesMissing ∷ test.AsResourcesInherited ∷ []
 
 -- What the certificate's key is for (RFC 6487 4.8.4), and its format (RFC 7935 3, RFC 8608 3.1).
 abbrev pub usage_for : Role → KeyUsage
@@ -75,10 +81,13 @@ Passes d strict role c test.BadIssuer = IsRpkiName strict c.tbs.issuer
 Passes d strict role c test.BadSubject = IsRpkiName (strict_for role strict) c.tbs.subject
 Passes d strict role c test.KeyAlgorithm = c.tbs.key.format ≡ format_for role
 Passes d strict role c test.KeyIdMismatch = c.tbs.subject_key_identifier ≡ identifier d c.tbs.key
-Passes d strict role c test.AuthorityKeyMismatch = (c.tbs.authority_key_identifier ≡ None) ⊎ (c.tbs.authority_key_identifier ≡ Some c.tbs.subject_key_identifier)
+Passes d strict role c test.AuthorityKeyMismatch =
+    (c.tbs.authority_key_identifier ≡ None)
+    ⊎ (c.tbs.authority_key_identifier ≡ Some c.tbs.subject_key_identifier)
 Passes d strict role c test.ExtendedKeyUsagePresent = c.tbs.extended_key_usage ≡ None
 Passes d strict role c test.ExtendedKeyUsageMissing = c.tbs.extended_key_usage ≢ None
-Passes d strict role c test.NotRouterUsage = Mem (purposes c.tbs.extended_key_usage) id.bgpsec_router
+Passes d strict role c test.NotRouterUsage =
+    Mem (purposes c.tbs.extended_key_usage) id.bgpsec_router
 Passes d strict role c test.CrlMissing = c.tbs.crl_uri ≢ None
 Passes d strict role c test.CrlPresent = c.tbs.crl_uri ≡ None
 Passes d strict role c test.AiaPresent = c.tbs.ca_issuer ≡ None
@@ -90,7 +99,8 @@ Passes d strict role c test.RepositoryMissing = c.tbs.access.repository ≢ None
 Passes d strict role c test.RepositoryPresent = c.tbs.access.repository ≡ None
 Passes d strict role c test.ManifestMissing = c.tbs.access.manifest ≢ None
 Passes d strict role c test.ManifestPresent = c.tbs.access.manifest ≡ None
-Passes d strict role c test.ManifestNotChild = LiesThere c.tbs.access.manifest c.tbs.access.repository
+Passes d strict role c test.ManifestNotChild =
+    LiesThere c.tbs.access.manifest c.tbs.access.repository
 Passes d strict role c test.SignedObjectMissing = c.tbs.access.object ≢ None
 Passes d strict role c test.SignedObjectPresent = c.tbs.access.object ≡ None
 Passes d strict role c test.SiaPresent = c.tbs.access ≡ no_access

@@ -25,7 +25,8 @@ AreFamilies m t x = IsIpAddrBlocks m t (family_choices x)
 -- (RFC 8360 4.2).
 abbrev pub IsVersioned : {A : Type 0} → (Overclaim → List ℕ) → (Tree → A → Type 0) → List Extension
     → Option (Overclaim × A) → Type 0
-IsVersioned octets Q all None = (of_kind (octets Refuse) all ≡ []) × (of_kind (octets Trim) all ≡ [])
+IsVersioned octets Q all None =
+    (of_kind (octets Refuse) all ≡ []) × (of_kind (octets Trim) all ≡ [])
 IsVersioned octets Q all (Some x) =
     (of_kind (octets (other x.0)) all ≡ []) × IsOptional May Q (of_kind (octets x.0) all) (Some x.1)
 
@@ -33,12 +34,17 @@ IsVersioned octets Q all (Some x) =
 pub record AreSlots (all : List Extension) (s : Slots) : Type 0 where
   pub skipped : Each IsKnownOrSkipped all
   pub basic_ca : IsOptional Must IsBasicConstraints (of_kind id.basic_constraints all) s.basic_ca
-  pub subject_key_identifier : IsOptional MustNot IsSubjectKeyIdentifier (of_kind id.subject_key_identifier all) s.subject_key_identifier
-  pub authority_key_identifier : IsOptional MustNot IsAuthorityKeyIdentifier (of_kind id.authority_key_identifier all) s.authority_key_identifier
+  pub subject_key_identifier : IsOptional MustNot IsSubjectKeyIdentifier
+      (of_kind id.subject_key_identifier all) s.subject_key_identifier
+  pub authority_key_identifier : IsOptional MustNot IsAuthorityKeyIdentifier
+      (of_kind id.authority_key_identifier all) s.authority_key_identifier
   pub key_usage : IsOptional Must IsKeyUsage (of_kind id.key_usage all) s.key_usage
-  pub extended_key_usage : IsOptional MustNot IsExtendedKeyUsage (of_kind id.extended_key_usage all) s.extended_key_usage
-  pub crl_uri : IsOptional MustNot IsCrlDistribution (of_kind id.crl_distribution_points all) s.crl_uri
-  pub ca_issuer : IsOptional MustNot IsAuthorityAccess (of_kind id.authority_info_access all) s.ca_issuer
+  pub extended_key_usage : IsOptional MustNot IsExtendedKeyUsage
+      (of_kind id.extended_key_usage all) s.extended_key_usage
+  pub crl_uri : IsOptional MustNot IsCrlDistribution
+      (of_kind id.crl_distribution_points all) s.crl_uri
+  pub ca_issuer : IsOptional MustNot IsAuthorityAccess
+      (of_kind id.authority_info_access all) s.ca_issuer
   pub access : IsOptional MustNot IsSubjectAccess (of_kind id.subject_info_access all) s.access
   pub policy : IsOptional Must IsPolicies (of_kind id.certificate_policies all) s.policy
   pub ip : IsVersioned ip_octets (AreFamilies Der) all s.ip

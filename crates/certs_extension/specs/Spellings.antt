@@ -8,8 +8,12 @@ use Rattle.certs_extension.specs.CrlText.{CrlValue, IsCrl, SpellsCrl}
 
 -- The tree is that certificate where its octets spell it.
 abbrev pub CertIsSpelled : Type 0
-CertIsSpelled = (t : Tree) (text : List ℕ) (c : CertValue) → Spells Der t text → IsCert Der t c ↔ SpellsCert Der text c
+CertIsSpelled =
+    (t : Tree) (text : List ℕ) (c : CertValue) → Spells Der t text
+    → IsCert Der t c ↔ SpellsCert Der text c
 
 -- The tree is that revocation list where its octets spell it.
 abbrev pub CrlIsSpelled : Type 0
-CrlIsSpelled = (t : Tree) (text : List ℕ) (c : CrlValue) → Spells Der t text → IsCrl Der t c ↔ SpellsCrl Der text c
+CrlIsSpelled =
+    (t : Tree) (text : List ℕ) (c : CrlValue) → Spells Der t text
+    → IsCrl Der t c ↔ SpellsCrl Der text c

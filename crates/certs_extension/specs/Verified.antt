@@ -31,20 +31,24 @@ issuer_claim = test.AuthorityKeyMissing ∷ test.AuthorityKeyMismatch ∷ test.A
 
 -- The tests of an anchor, of what is below an issuer, and of a router's certificate, in their order.
 abbrev pub anchor_tests : List VerificationTest
-anchor_tests = validity ++ test.InheritedV4 ∷ test.InheritedV6 ∷ test.InheritedAs ∷ test.BadSignature ∷ []
+anchor_tests =
+    validity ++ test.InheritedV4 ∷ test.InheritedV6 ∷ test.InheritedAs ∷ test.BadSignature ∷ []
 
 abbrev pub issued_tests : List VerificationTest
-issued_tests = validity ++ issuer_claim ++ test.BadSignature ∷ test.OverclaimV4 ∷ test.OverclaimV6 ∷ test.OverclaimAs ∷ []
+issued_tests = validity ++ issuer_claim ++ test.BadSignature ∷ test.OverclaimV4 ∷ test.OverclaimV6
+    ∷ test.OverclaimAs ∷ []
 
 abbrev pub router_tests : List VerificationTest
 router_tests = validity ++ issuer_claim ++ test.BadSignature ∷ test.OverclaimAs ∷ []
 
 -- The certificate passes the test at that moment, below that issuer; `held` says what the issuer holds of each kind.
-abbrev pub PassesAt : Verdicts → ℕ → CertValue → (Kind → ℕ → Type 0) → CertValue → VerificationTest → Type 0
+abbrev pub PassesAt : Verdicts → ℕ → CertValue → (Kind → ℕ → Type 0) → CertValue → VerificationTest
+    → Type 0
 PassesAt good now issuer held c test.NotYetValid = c.tbs.not_before ≤ now
 PassesAt good now issuer held c test.Expired = now ≤ c.tbs.not_after
 PassesAt good now issuer held c test.AuthorityKeyMissing = c.tbs.authority_key_identifier ≢ None
-PassesAt good now issuer held c test.AuthorityKeyMismatch = c.tbs.authority_key_identifier ≡ Some issuer.tbs.subject_key_identifier
+PassesAt good now issuer held c test.AuthorityKeyMismatch =
+    c.tbs.authority_key_identifier ≡ Some issuer.tbs.subject_key_identifier
 PassesAt good now issuer held c test.AiaMissing = c.tbs.ca_issuer ≢ None
 PassesAt good now issuer held c test.BadSignature = IsSignedBy good issuer.tbs.key c.signed
 PassesAt good now issuer held c test.InheritedV4 = c.tbs.v4 ≢ Inherit
@@ -66,7 +70,8 @@ IsIssuedAt good now issuer held c = Each (PassesAt good now issuer held c) issue
 
 -- Issued, whatever it claims of resources: what is tested apart from its claim.
 abbrev pub IsSignedAt : Verdicts → ℕ → CertValue → CertValue → Type 0
-IsSignedAt good now issuer c = Each (PassesAt good now issuer nothing c) (validity ++ issuer_claim ++ test.BadSignature ∷ [])
+IsSignedAt good now issuer c =
+    Each (PassesAt good now issuer nothing c) (validity ++ issuer_claim ++ test.BadSignature ∷ [])
 
 -- A certificate that was verified, and the runs of what it holds of each kind.
 pub record HolderValue : Type 0 where
@@ -95,12 +100,14 @@ pub record HoldsBelow (held : Kind → ℕ → Type 0) (c : CertValue) (h : Hold
   pub asn : IsRunsOf (Kept c.tbs.asn (held As)) h.asn
 
 -- Accepted as an anchor, or as a certificate of that role below an issuer.
-pub record AcceptsAnchor (d : Digests) (good : Verdicts) (strict : Bool) (now : ℕ) (c : CertValue) (h : HolderValue) : Type 0 where
+pub record AcceptsAnchor (d : Digests) (good : Verdicts) (strict : Bool) (now : ℕ) (c : CertValue)
+    (h : HolderValue) : Type 0 where
   pub profile : Profile d strict Ta c
   pub anchor : IsAnchorAt good now c
   pub holds : HoldsOwn c h
 
-pub record AcceptsIssued (d : Digests) (good : Verdicts) (strict : Bool) (role : Role) (now : ℕ) (issuer : HolderValue) (c : CertValue) (h : HolderValue) : Type 0 where
+pub record AcceptsIssued (d : Digests) (good : Verdicts) (strict : Bool) (role : Role) (now : ℕ)
+    (issuer : HolderValue) (c : CertValue) (h : HolderValue) : Type 0 where
   pub profile : Profile d strict role c
   pub issued : IsIssuedAt good now issuer.cert (held_by issuer) c
   pub holds : HoldsBelow (held_by issuer) c h

@@ -10,6 +10,6 @@ pub mod slots;
 mod values;
 
 pub use finish::Claims;
-pub use holding::beside;
+pub use holding::with_value;
 pub use list::take_extensions;
 pub use slots::Slots;

@@ -1,6 +1,5 @@
 -- Unused bits that are zero (X.690 11.2.1): nothing is cleared of them, so that a key which has such is read again as it is.
 use Rattle.std.proofs.Common.{◌≡◌, ℕ, ◌-◌, ◌%◌, ◌^◌, List, [], ◌∷◌, Result, Ok, Err, IfOk, refl, ap, arith}
-use Rattle.std.proofs.Math.Nat.{mod-one}
 use Rattle.certs_key.specs.bcder_source.declared.error.DecodeError.{DecodeError}
 use Rattle.certs_key.specs.bcder_tree.declared.mode.Mode.TheVariants.{Der}
 use Rattle.certs_key.specs.bcder_octets.Bits.{BitsValue}
@@ -14,10 +13,6 @@ not_cleared : (unused : ℕ) (octets : List ℕ) → last_octet octets % 2 ^ unu
 not_cleared unused [] p = refl
 not_cleared unused (a ∷ []) p = let same : a - a % 2 ^ unused ≡ a = omega (arith, p) in ap (λ n. n ∷ []) same
 not_cleared unused (a ∷ b ∷ octets) p = ap (λ (l : List ℕ). a ∷ l) (not_cleared unused (b ∷ octets) p)
-
--- Nor have octets of which all bits are used.
-pub all_used : (octets : List ℕ) → cleared 0 octets ≡ octets
-all_used octets = let rest : last_octet octets % 2 ^ 0 ≡ 0 = mod-one (last_octet octets) in not_cleared 0 octets rest
 
 pub padded_same : (v : BitsValue) → IsPadded Der v → padded_in Der v ≡ v
 padded_same v p = ap (λ (o : List ℕ). (let bits : BitsValue = record { unused = v.unused; octets = o } in bits)) (not_cleared v.unused v.octets p)

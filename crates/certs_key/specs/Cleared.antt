@@ -34,4 +34,7 @@ same_tree Cer k = ap (λ v. tree_with k v) (cleared_twice k.bits.unused k.bits.o
 same_tree Der k = ap (λ v. tree_with k v) (cleared_twice k.bits.unused k.bits.octets)
 
 pub again_has : (m : Mode) (k : KeyValue) → HasEncoding k → HasEncoding (key_again m k)
-again_has m k h = record { octets = h.octets; encodes = subst (λ (t : Tree). Spells Der t h.octets) (sym (same_tree m k)) h.encodes }
+again_has m k h = record {
+  octets = h.octets;
+  encodes = subst (λ (t : Tree). Spells Der t h.octets) (sym (same_tree m k)) h.encodes;
+}

@@ -50,25 +50,36 @@ abbrev pub pair : TagValue → TagValue → TagValue → Form Pair
 pair outer first second = wrapped outer (both (raw first) (last (raw second)))
 
 -- What is written of it is one tree.
-pair_tree : (m : Mode) (outer first second : TagValue) (a b : List ℕ) (ts : Trees) → (pair outer first second).trees (a, (b, tt)) m ts
+pair_tree : (m : Mode) (outer first second : TagValue) (a b : List ℕ) (ts : Trees)
+    → (pair outer first second).trees (a, (b, tt)) m ts
     → ts ≡ more (constructed outer (more (primitive first a) (more (primitive second b) none))) none
 pair_tree m outer first second a b ts p =
-    let one : p.is.first ≡ more (primitive first a) none = p.is.is_first.whole ∙ ap (λ v. more (primitive first v) none) p.is.is_first.is.same in
-    let two : p.is.second ≡ more (primitive second b) none = p.is.is_second.whole ∙ ap (λ v. more (primitive second v) none) p.is.is_second.is.same in
+    let one : p.is.first ≡ more (primitive first a) none =
+    p.is.is_first.whole ∙ ap (λ v. more (primitive first v) none) p.is.is_first.is.same in
+    let two : p.is.second ≡ more (primitive second b) none =
+    p.is.is_second.whole ∙ ap (λ v. more (primitive second v) none) p.is.is_second.is.same in
     let all : p.values ≡ more (primitive first a) (more (primitive second b) none) =
-    p.is.whole ∙ ap (λ us. joined us p.is.second) one ∙ ap (λ us. more (primitive first a) us) two in
+    p.is.whole ∙ ap (λ us. joined us p.is.second) one ∙ ap
+    (λ us. more (primitive first a) us) two in
     p.whole ∙ ap (λ us. more (constructed outer us) none) all
 
-pub format_shown : (x : PublicKeyFormat) (m : Mode) (ts : Trees) → (pair sequence_tag oid_tag (parameters_tag x)).trees (pair_of x) m ts
+pub format_shown : (x : PublicKeyFormat) (m : Mode) (ts : Trees)
+    → (pair sequence_tag oid_tag (parameters_tag x)).trees (pair_of x) m ts
     → ts ≡ more (format_tree x) none
 format_shown Rsa m ts p = pair_tree m sequence_tag oid_tag null_tag rsa_encryption [] ts p
 format_shown Ecdsa m ts p = pair_tree m sequence_tag oid_tag oid_tag ec_public_key secp256r1 ts p
 
 rsa_identifies : IsIdentifier rsa_encryption
-rsa_identifies = record { front = 42 ∷ 134 ∷ 72 ∷ 134 ∷ 247 ∷ 13 ∷ 1 ∷ 1 ∷ []; last = 1; whole = refl; ends = omega arith }
+rsa_identifies = record {
+  front = 42 ∷ 134 ∷ 72 ∷ 134 ∷ 247 ∷ 13 ∷ 1 ∷ 1 ∷ [];
+  last = 1;
+  whole = refl;
+  ends = omega arith;
+}
 
 ec_identifies : IsIdentifier ec_public_key
-ec_identifies = record { front = 42 ∷ 134 ∷ 72 ∷ 206 ∷ 61 ∷ 2 ∷ []; last = 1; whole = refl; ends = omega arith }
+ec_identifies =
+    record { front = 42 ∷ 134 ∷ 72 ∷ 206 ∷ 61 ∷ 2 ∷ []; last = 1; whole = refl; ends = omega arith }
 
 pub format_is : (x : PublicKeyFormat) → IsFormat (format_tree x) x
 format_is Rsa = record {
@@ -79,7 +90,11 @@ format_is Rsa = record {
       first = primitive oid_tag rsa_encryption;
       others = more (primitive null_tag []) none;
       whole = refl;
-      is = record { content = rsa_encryption; whole = refl; is = record { same = refl; is = rsa_identifies } };
+      is = record {
+        content = rsa_encryption;
+        whole = refl;
+        is = record { same = refl; is = rsa_identifies };
+      };
       rest = (
         refl,
         of_rsa {x = (Some tt, tt)} (record {
@@ -103,7 +118,11 @@ format_is Ecdsa = record {
       first = primitive oid_tag ec_public_key;
       others = more (primitive oid_tag secp256r1) none;
       whole = refl;
-      is = record { content = ec_public_key; whole = refl; is = record { same = refl; is = ec_identifies } };
+      is = record {
+        content = ec_public_key;
+        whole = refl;
+        is = record { same = refl; is = ec_identifies };
+      };
       rest = (
         refl,
         of_ecdsa {x = (tt, tt)} (record {
@@ -133,7 +152,11 @@ format = record {
   spelled = λ x. (pair sequence_tag oid_tag (parameters_tag x)).spelled (pair_of x);
   one_text = λ x. (pair sequence_tag oid_tag (parameters_tag x)).one_text (pair_of x);
   tagged = λ m t x p. ap tag_of p.whole;
-  is_read = λ s x m ts l p. record { tree = format_tree x; alone = format_shown x m ts p; is = format_is x };
+  is_read = λ s x m ts l p. record {
+    tree = format_tree x;
+    alone = format_shown x m ts p;
+    is = format_is x;
+  };
   one_meaning = λ s m c. format_one;
 }
 
@@ -165,20 +188,27 @@ key = record {
       record {
         tree = a.tree;
         alone = a.alone;
-        is = record { values = a.is.values; whole = a.is.whole; is = record { are = a.is.is; has = again_has m k l } };
+        is = record {
+          values = a.is.values;
+          whole = a.is.whole;
+          is = record { are = a.is.is; has = again_has m k l };
+        };
       };
   one_meaning = λ s m c. key_one;
 }
 
 -- The tags of encoders, and what they lend.
 abbrev pub Lent : Type 0
-Lent = (TagValue × (TagValue × (TagValue × (TagValue × TagValue)))) × (Pair × (BitsValue × Unit {0}))
+Lent =
+    (TagValue × (TagValue × (TagValue × (TagValue × TagValue)))) × (Pair × (BitsValue × Unit {0}))
 
 abbrev pub lent : Lent → Form (Pair × (BitsValue × Unit {0}))
 lent l = wrapped l.0.0 (both (pair l.0.1.0 l.0.1.1.0 l.0.1.1.1.0) (last (bits_at l.0.1.1.1.1)))
 
-abbrev pub lends : TagValue → TagValue → TagValue × List ℕ → TagValue × List ℕ → TagValue × BitsValue → Lent
+abbrev pub lends : TagValue → TagValue → TagValue × List ℕ → TagValue × List ℕ → TagValue
+    × BitsValue → Lent
 lends t u a b d = ((t, (u, (a.0, (b.0, d.0)))), ((a.1, (b.1, tt)), (d.1, tt)))
 
 abbrev pub key_lends : KeyValue → Lent
-key_lends k = lends sequence_tag sequence_tag (oid_tag, kind_of k.format) (parameters_tag k.format, parameters_of k.format) (universal 3, k.bits)
+key_lends k = lends sequence_tag sequence_tag (oid_tag, kind_of k.format)
+    (parameters_tag k.format, parameters_of k.format) (universal 3, k.bits)

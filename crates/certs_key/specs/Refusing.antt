@@ -14,7 +14,8 @@ NotWrittenIf can cannot causes.Memory = can
 
 -- A refusal to sign: nothing can be written (`TooLong`, which no signer answers), or the signer refused what can be, by an
 -- error of its own, or memory was lacking for it, to the signer or here. `refuses` says by which errors the signer refuses.
-abbrev pub SigningRefusedIf : {E : Type 0} → (refuses : SigningError E → Type 0) → (can cannot : Type 0) → SigningError E → Type 0
+abbrev pub SigningRefusedIf : {E : Type 0} → (refuses : SigningError E → Type 0)
+    → (can cannot : Type 0) → SigningError E → Type 0
 SigningRefusedIf refuses can cannot errors.KeyNotFound = can × refuses errors.KeyNotFound
 SigningRefusedIf refuses can cannot errors.IncompatibleKey = can × refuses errors.IncompatibleKey
 SigningRefusedIf refuses can cannot (errors.Signer e) = can × refuses (errors.Signer e)

@@ -2,7 +2,6 @@ pub mod Numbers
 pub mod Readings
 pub mod Ones
 pub mod Names
-pub mod Wholes
 pub mod Sightings
 pub mod Inspecting
 pub mod KeyNames

@@ -11,7 +11,7 @@ use Rattle.certs_name.specs.bcder_content.Contents.{ValuesLeft, Goes}
 use Rattle.certs_name.specs.bcder_content.Exact.{Gives, Lacks}
 use Rattle.certs_name.specs.bcder_content.Grammar.{ExactlyOf, ManyCases}
 use Rattle.certs_name.specs.bcder_content.Kept.{CapturedValue}
-use Rattle.certs_name.specs.bcder_content.Ran.{Reader}
+use Rattle.certs_name.specs.bcder_content.ClosureReads.{Reader}
 use Rattle.certs_name.proofs.of_bcder_content.Decoding.{ValueEach}
 use Rattle.certs_name.proofs.of_bcder_content.KeptOne.{exact_capture_one}
 use Rattle.certs_name.proofs.of_bcder_content.Taking.{weaker}

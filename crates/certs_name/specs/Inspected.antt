@@ -20,10 +20,12 @@ seen_serial = record { common_name = false; serial_number = true }
 
 -- The identifier of a commonName, or of a serialNumber.
 abbrev pub IsKind : List ℕ → Seen → Type 0
-IsKind octets s = ((octets ≡ common_name) × (s ≡ seen_common)) ⊎ ((octets ≡ serial_number) × (s ≡ seen_serial))
+IsKind octets s =
+    ((octets ≡ common_name) × (s ≡ seen_common)) ⊎ ((octets ≡ serial_number) × (s ≡ seen_serial))
 
 -- Content octets that are a text of the characters.
-pub record IsTextOf (Has : ℕ → Type 0) (spell : ℕ → List ℕ) (content : List ℕ) (x : Unit {0}) : Type 0 where
+pub record IsTextOf (Has : ℕ → Type 0) (spell : ℕ → List ℕ) (content : List ℕ) (x : Unit {0})
+    : Type 0 where
   pub is : IsText Has spell content
 
 -- A primitive PrintableString; where not strict, a primitive UTF8String too.
@@ -50,7 +52,8 @@ abbrev pub IsSeenBody : Bool → Mode → Trees → SeenFields → Type 0
 IsSeenBody strict m = Then (OctetsOf oid_tag IsKind) (Then (IsTextValue strict) End)
 
 abbrev pub IsSeenAttribute : Bool → Tree → Seen → Type 0
-IsSeenAttribute strict = As (Inside sequence_tag (Then (OctetsOf oid_tag IsKind) (Then (IsTextValue strict) End))) seen_of
+IsSeenAttribute strict = As (Inside sequence_tag
+    (Then (OctetsOf oid_tag IsKind) (Then (IsTextValue strict) End))) seen_of
 
 -- How often.
 abbrev pub times : Bool → ℕ

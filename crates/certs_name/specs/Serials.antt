@@ -19,6 +19,9 @@ abbrev halves : ℕ → ℕ → Inside
 halves high low = record { high = high; low = low }
 
 -- The halves of a number are those that it was made of.
-pub halves_again : (s : Inside) → (s.high < 2 ^ 32) × (s.low < 2 ^ 128) → halves ((s.high * 2 ^ 128 + s.low) / 2 ^ 128) ((s.high * 2 ^ 128 + s.low) % 2 ^ 128) ≡ s
+pub halves_again : (s : Inside) → (s.high < 2 ^ 32) × (s.low < 2 ^ 128)
+    → halves ((s.high * 2 ^ 128 + s.low) / 2 ^ 128) ((s.high * 2 ^ 128 + s.low) % 2 ^ 128) ≡ s
 halves_again s bounds =
-    ap (λ (n : ℕ). halves n ((s.high * 2 ^ 128 + s.low) % 2 ^ 128)) (upper s.high s.low bounds.1) ∙ ap (λ (n : ℕ). halves s.high n) (lower s.high s.low bounds.1)
+    ap (λ (n : ℕ). halves n ((s.high * 2 ^ 128 + s.low) % 2 ^ 128))
+    (upper s.high s.low bounds.1) ∙ ap (λ (n : ℕ). halves s.high n)
+    (lower s.high s.low bounds.1)

@@ -102,24 +102,33 @@ fn copy(alloc: Global, answer: &mut Answer, digits: &str, terms: &Terms) {
     }
 }
 
-// What a call says of the certificate as a trust anchor.
-fn told(
-    answer: &mut Answer,
+// The certificate as a trust anchor, by a call that inspects.
+fn validated(
     call: &str,
     cert: Cert,
     tal: Rc<TalInfo>,
     terms: &Terms,
     judge: &mut Judge,
-) {
-    let (strict, now) = (terms.strict, terms.now);
+) -> Result<ResourceCert, Refused<ValidationError>> {
+    let strict = terms.strict;
     match call {
-        "validate_ta_at" => accepted(answer, cert.validate_ta_at(tal, strict, now, &Fips, judge)),
-        "validate_ta" => accepted(
-            answer,
-            cert.validate_ta(tal, strict, &terms.clock(), &Fips, judge),
-        ),
-        "verify_ta_at" => accepted(answer, cert.verify_ta_at(tal, strict, now, judge)),
-        _ => accepted(answer, cert.verify_ta(tal, strict, &terms.clock(), judge)),
+        "validate_ta_at" => cert.validate_ta_at(tal, strict, terms.now, &Fips, judge),
+        _ => cert.validate_ta(tal, strict, &terms.clock(), &Fips, judge),
+    }
+}
+
+// The certificate as a trust anchor, by a call that doesn't inspect.
+fn verified(
+    call: &str,
+    cert: Cert,
+    tal: Rc<TalInfo>,
+    terms: &Terms,
+    judge: &mut Judge,
+) -> Result<ResourceCert, Refused<VerificationError>> {
+    let strict = terms.strict;
+    match call {
+        "verify_ta_at" => cert.verify_ta_at(tal, strict, terms.now, judge),
+        _ => cert.verify_ta(tal, strict, &terms.clock(), judge),
     }
 }
 
@@ -135,9 +144,14 @@ fn of_cert(
     let Ok(tal) = locator(alloc) else {
         return answer.word("memory");
     };
-    match cert_of(alloc, answer, digits) {
-        Some(cert) => told(answer, call, cert, tal, terms, judge),
-        None => answer.word("no certificate"),
+    let Some(cert) = cert_of(alloc, answer, digits) else {
+        return answer.word("no certificate");
+    };
+    match call {
+        "validate_ta_at" | "validate_ta" => {
+            accepted(answer, validated(call, cert, tal, terms, judge));
+        }
+        _ => accepted(answer, verified(call, cert, tal, terms, judge)),
     }
 }
 

@@ -1,8 +1,8 @@
 //! What the calls say to which a certificate is lent.
 
-use crate::terms::{Judge, Terms};
+use crate::terms::{Judge, Question};
 use answers::Answer;
-use certs_verify::{Cert, ResourceCert, Validate, Verify};
+use certs_verify::{Cert, Validate, Verify};
 use rpki_digests::Fips;
 use std::alloc::Global;
 use std::fmt::Display;
@@ -16,14 +16,9 @@ fn tested<E: Display + Drop>(answer: &mut Answer, said: Result<(), E>) {
 }
 
 // One test of the certificate, or all those of an anchor.
-fn alone(
-    answer: &mut Answer,
-    call: &str,
-    cert: &Cert,
-    issuer: &Cert,
-    terms: &Terms,
-    judge: &mut Judge,
-) {
+fn alone(answer: &mut Answer, question: &Question<'_>, cert: &Cert, judge: &mut Judge) {
+    let (call, terms) = (question.call, question.terms);
+    let issuer = question.issuer.as_cert();
     let (strict, now) = (terms.strict, terms.now);
     match call {
         "verify_validity" => tested(answer, cert.verify_validity(now)),
@@ -39,12 +34,11 @@ fn alone(
 pub fn told(
     alloc: Global,
     answer: &mut Answer,
-    call: &str,
+    question: &Question<'_>,
     cert: &Cert,
-    issuer: &ResourceCert,
-    terms: &Terms,
     judge: &mut Judge,
 ) {
+    let (call, issuer, terms) = (question.call, question.issuer, question.terms);
     let clock = terms.clock();
     let (strict, now) = (terms.strict, terms.now);
     match call {
@@ -64,6 +58,6 @@ pub fn told(
             answer,
             cert.verify_router(alloc, issuer, strict, &clock, judge),
         ),
-        _ => alone(answer, call, cert, issuer.as_cert(), terms, judge),
+        _ => alone(answer, question, cert, judge),
     }
 }

@@ -1,7 +1,8 @@
 //! Questions about certificates as a whole: what is read of one, of a copy, whether its form is that of a role, whether it is
 //! vouched for, and what it then holds; or what is written of fields, and of the certificate that a signer makes of them. The
 //! library `certs_cases` hands them on, behind the word `cert`, and `tests/questions/certs_roles.py` knows the answers by
-//! means of its own.
+//! means of its own. What questions about objects share with these is public: a verifier in [`stand_in`], a clock and the
+//! name of locators in [`terms`], and how moments and resources are told in [`told`].
 //!
 //! Certificates and fields are let go by `drop`, since the check of a function takes ten times as long where the end of a block
 //! does that.
@@ -14,7 +15,9 @@ mod issued;
 mod lent;
 mod read;
 mod shown;
-mod terms;
+pub mod stand_in;
+pub mod terms;
+pub mod told;
 mod within;
 
 use answers::{Answer, unknown};

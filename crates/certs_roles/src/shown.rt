@@ -1,18 +1,10 @@
 //! What is answered of a certificate, field by field.
 
+use crate::told::moment;
 use answers::Answer;
-use certs_cert::{Cert, KeyUsage, TbsCert, Time};
+use certs_cert::{Cert, KeyUsage, TbsCert};
 use resources::Overclaim;
 use std::alloc::Global;
-
-// A moment, to its seconds.
-fn moment(answer: &mut Answer, moment: Time) {
-    let text = moment.generalized();
-    match std::str::from_utf8(text.as_slice()) {
-        Ok(text) => answer.word(text),
-        Err(_) => answer.word("no text"),
-    }
-}
 
 // Who signs for whom: the serial number, names as they stand, validity, the key, and whether NULL stands in the algorithm.
 fn identity(answer: &mut Answer, tbs: &TbsCert) {

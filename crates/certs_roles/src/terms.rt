@@ -1,9 +1,9 @@
-//! What certificates are validated under: strictness, a moment, a clock, and one who knows signatures.
+//! What certificates are validated under: an issuer, strictness, a moment, a clock, and one who knows signatures.
 
 ghost use Rattle.std.specs.Prelude.{◌≡◌};
 
 use certs_cert::{RpkiSignatureAlgorithm, Time};
-use certs_verify::{PublicKey, TalInfo, Verifier};
+use certs_verify::{PublicKey, ResourceCert, TalInfo, Verifier};
 use certs_x509::Clock;
 use std::alloc::{AllocError, Global};
 use std::rc::Rc;
@@ -43,9 +43,9 @@ impl Verifier for Judge {
     }
 }
 
-/// A clock that stands.
+/// A clock that stands at a moment.
 #[derive(Clone, Copy)]
-pub struct Standing(Time);
+pub struct Standing(pub Time);
 
 impl Clock for Standing {
     ghost tells = { λ clock moment. moment ≡ clock.0 };
@@ -76,6 +76,17 @@ impl Terms {
     pub fn clock(&self) -> Standing {
         Standing(self.now)
     }
+}
+
+/// What is asked of a certificate below an issuer: by which call, and under which terms.
+#[derive(Clone, Copy)]
+pub struct Question<'a> {
+    /// The call.
+    pub call: &'a str,
+    /// The issuer.
+    pub issuer: &'a ResourceCert,
+    /// Strictness and the moment.
+    pub terms: Terms,
 }
 
 /// What the locator of each anchor is called.

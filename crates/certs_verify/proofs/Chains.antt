@@ -65,10 +65,6 @@ fault_alike P Q ts (Some (verified t)) same f =
     record { front = f.front; behind = f.behind; whole = f.whole; passed = each_alike P Q f.front here.0 f.passed; fails = λ q. f.fails (here.1.1 q) }
 fault_alike P Q ts (Some wants_memory) same f = tt
 
-pub answers_alike : {A : Type 0} (P Q : VerificationTest → Type 0) (ts : List VerificationTest) (r : Result A VerificationError) → Each (Alike P Q) ts → Answers P ts r → Answers Q ts r
-answers_alike P Q ts (Ok x) same a = each_alike P Q ts same a
-answers_alike P Q ts (Err e) same a = fault_alike P Q ts (fault_of e) same a
-
 -- A call after tests that are passed was refused, and its error is handed on.
 pub handed_on : {A : Type 0} (P : VerificationTest → Type 0) (front ts behind : List VerificationTest) (e : VerificationError) (r : Result A VerificationError)
     → IsErr r × IsErrAnd r (λ x. x ≡ e) → Each P front → Fails P ts (fault_of e) → Answers P (front ++ (ts ++ behind)) r

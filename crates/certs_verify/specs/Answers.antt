@@ -47,7 +47,8 @@ Fails P tests (Some (verified t)) = FirstFailing P tests t
 Fails P tests (Some wants_memory) = Unit {0}
 
 -- All tests of the list are passed, or the error tells the first that isn't.
-abbrev pub Answers : {A : Type 0} → (VerificationTest → Type 0) → List VerificationTest → Result A VerificationError → Type 0
+abbrev pub Answers : {A : Type 0} → (VerificationTest → Type 0) → List VerificationTest
+    → Result A VerificationError → Type 0
 Answers P tests (Ok x) = Each P tests
 Answers P tests (Err e) = Fails P tests (fault_of e)
 

@@ -32,10 +32,12 @@ cause_of (error.Verification e) = fault_of e
 -- before memory is first wanted.
 abbrev pub MemoryAfterForm : Digests → Bool → Role → CertValue → Type 0 → ValidationError → Type 0
 MemoryAfterForm d strict role c passed (error.Inspection t) = Unit {0}
-MemoryAfterForm d strict role c passed (error.Verification e) = MemoryAfter (Profile d strict role c × passed) e
+MemoryAfterForm d strict role c passed (error.Verification e) =
+    MemoryAfter (Profile d strict role c × passed) e
 
 -- The answer is as P says, with the fault that the error tells.
-abbrev pub MeetsValid : (Result HolderValue RefusedValue → Type 0) → Result ResourceCertValue (Refused ValidationError) → Type 0
+abbrev pub MeetsValid : (Result HolderValue RefusedValue → Type 0)
+    → Result ResourceCertValue (Refused ValidationError) → Type 0
 MeetsValid P (Ok r) = P (Ok r.holder)
 MeetsValid P (Err r) = RefusedBy P r.cert (cause_of r.error)
 
@@ -45,12 +47,18 @@ TellsNumbers c held (error.Inspection t) = Unit {0}
 TellsNumbers c held (error.Verification e) = TellsOutside c held e
 
 -- Accepted as a router's certificate, or the first test that fails.
-abbrev pub FailsRouter : Digests → Verdicts → Bool → ℕ → HolderValue → CertValue → Option Fault → Type 0
+abbrev pub FailsRouter : Digests → Verdicts → Bool → ℕ → HolderValue → CertValue → Option Fault
+    → Type 0
 FailsRouter d good strict now issuer c None = ⊥
 FailsRouter d good strict now issuer c (Some (inspected t)) = FailsFirst d strict Router c t
-FailsRouter d good strict now issuer c (Some (verified t)) = Profile d strict Router c × FirstFailing (PassesAt good now issuer.cert (held_by issuer) c) router_tests t
+FailsRouter d good strict now issuer c (Some (verified t)) =
+    Profile d strict Router c
+    × FirstFailing (PassesAt good now issuer.cert (held_by issuer) c) router_tests t
 FailsRouter d good strict now issuer c (Some wants_memory) = Unit {0}
 
-abbrev pub ValidatesRouter : Digests → Verdicts → Bool → ℕ → HolderValue → CertValue → Result (Unit {0}) ValidationError → Type 0
-ValidatesRouter d good strict now issuer c (Ok x) = Profile d strict Router c × Each (PassesAt good now issuer.cert (held_by issuer) c) router_tests
-ValidatesRouter d good strict now issuer c (Err e) = FailsRouter d good strict now issuer c (cause_of e)
+abbrev pub ValidatesRouter : Digests → Verdicts → Bool → ℕ → HolderValue → CertValue
+    → Result (Unit {0}) ValidationError → Type 0
+ValidatesRouter d good strict now issuer c (Ok x) =
+    Profile d strict Router c × Each (PassesAt good now issuer.cert (held_by issuer) c) router_tests
+ValidatesRouter d good strict now issuer c (Err e) =
+    FailsRouter d good strict now issuer c (cause_of e)

@@ -8,7 +8,6 @@ pub mod Again
 pub mod Around
 pub mod Octets
 pub mod Messages
-pub mod Wholes
 pub mod Few
 pub mod Refused
 mod Turned

@@ -1,5 +1,5 @@
 -- Lists of entries that octets spell, read one by one.
-use Rattle.std.proofs.Common.{◌≡◌, false, List, [], ◌∷◌, Ok, refl, sym, ap, subst}
+use Rattle.std.proofs.Common.{◌≡◌, List, [], ◌∷◌, Ok, refl, sym, ap, subst}
 use Rattle.std.proofs.Math.Logic.{∥∥₁_elim}
 use Rattle.std.specs.Coded.{Coded-set, coded_list}
 use Rattle.certs_x509.specs.bcder_tree.declared.mode.Mode.{Mode}
@@ -14,7 +14,7 @@ use Rattle.certs_x509.specs.bcder_content.InMode.{ReadsFields}
 use Rattle.certs_x509.specs.bcder_content.Grammar.{ExactlyAll, Many, ManyCases, Tagged}
 use Rattle.certs_x509.specs.bcder_content.Words.{Gathers}
 use Rattle.certs_x509.specs.bcder_content.Kept.{CapturedValue}
-use Rattle.certs_x509.specs.bcder_content.Ran.{Reader}
+use Rattle.certs_x509.specs.bcder_content.ClosureReads.{Reader}
 use Rattle.certs_x509.proofs.of_bcder_content.Inside.{ReadsEach}
 use Rattle.certs_x509.proofs.of_bcder_content.Kept.{exact_capture}
 use Rattle.certs_x509.proofs.of_bcder_content.Took.{ended_none, whole_first, whole_none, whole_others}
@@ -91,9 +91,6 @@ lacks_cases {now = now} ts (y ∷ ys) w p l = l.lacks.none p.0 y p.3 (whole_firs
 
 pub left_lacks : {now : ValuesLeft} {xs : List RevokedValue} → EntriesLeft now xs → LacksTagged sequence_tag IsRevoked now → ⊥
 left_lacks {xs = xs} l h = lacks_cases l.trees xs l.whole l.are.cases h
-
-pub left_sound : {now : ValuesLeft} {xs : List RevokedValue} → EntriesLeft now xs → now.failed ≡ false
-left_sound l = l.whole.took.goes.before
 
 -- Entries were captured, and the list is the one that the octets spell.
 pub captured_reads : {v new : ValuesLeft} {c : CapturedValue} (E : Type 0) (l : List RevokedValue) → ∥ SpellsEntries c l ∥₁ → Captured v c new → ReadsFields {E = E} (λ l. l) AreEntries v (Ok l) new

@@ -10,7 +10,7 @@ use Rattle.certs_x509.specs.bcder_content.Contents.{ValuesLeft, Goes}
 use Rattle.certs_x509.specs.bcder_content.Exact.{Gives, ReadsAs}
 use Rattle.certs_x509.specs.bcder_content.Grammar.{Any, Exactly, OctetsOf}
 use Rattle.certs_x509.specs.bcder_content.Kept.{CapturedValue}
-use Rattle.certs_x509.specs.bcder_content.Ran.{Reader}
+use Rattle.certs_x509.specs.bcder_content.ClosureReads.{Reader}
 use Rattle.certs_x509.proofs.of_bcder_content.Kept.{AnyEach, exact_one}
 use Rattle.certs_x509.proofs.of_bcder_content.Taking.{weaker}
 use Rattle.certs_x509.proofs.of_bcder_content.Took.{goes_both, goes_none}

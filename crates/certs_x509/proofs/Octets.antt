@@ -9,7 +9,7 @@ use Rattle.certs_x509.specs.bcder_source.declared.error.DecodeError.{DecodeError
 use Rattle.certs_x509.specs.bcder_content.declared.constructed.Constructed.{Constructed}
 use Rattle.certs_x509.specs.bcder_content.Contents.{ValuesLeft, octets}
 use Rattle.certs_x509.specs.bcder_content.Here.{here}
-use Rattle.certs_x509.specs.bcder_content.Ran.{Decoded, DecodedCases, Ran, RanCases, Reader, fresh}
+use Rattle.certs_x509.specs.bcder_content.ClosureReads.{Decoded, DecodedCases, ClosureReads, ClosureReadsCases, Reader, fresh}
 use Rattle.certs_x509.specs.bcder_content.Texts.{InFront, Wraps}
 use Rattle.certs_x509.specs.Took.{TookOctets}
 use Rattle.certs_x509.proofs.Around.{read_around}
@@ -28,7 +28,7 @@ met_took {S = S} {rest = rest} {f = f} {P} each given stop x met =
     (each.each met.shown met.left x met.met))
 
 inside_cases : {F S T B E : Type 0} {rest : S → List ℕ} {g : Reader F (Constructed S) T E} {op : F} {f : T → B} {P : Mode → List ℕ → B → Type 0}
-    (old new : ValuesLeft) (tag : TagValue) (r : Result T (DecodeError E)) → EachTook rest g op f P → RanCases rest g op old tag r new
+    (old new : ValuesLeft) (tag : TagValue) (r : Result T (DecodeError E)) → EachTook rest g op f P → ClosureReadsCases rest g op old tag r new
     → IfOk r (λ x. TookOctets f (λ m. Wraps m tag (P m)) old x new)
 inside_cases {rest = rest} {f = f} {P} old new tag (Ok x) each h =
     let on = h.2 in
@@ -44,7 +44,7 @@ inside_cases old new tag (Err e) each h = tt
 
 -- A value by a closure: its content is what the closure read.
 pub inside_took : {F S T B E : Type 0} {rest : S → List ℕ} {g : Reader F (Constructed S) T E} {op : F} {f : T → B} {P : Mode → List ℕ → B → Type 0}
-    {old new : ValuesLeft} {tag : TagValue} {r : Result T (DecodeError E)} → EachTook rest g op f P → Ran rest g op old tag r new
+    {old new : ValuesLeft} {tag : TagValue} {r : Result T (DecodeError E)} → EachTook rest g op f P → ClosureReads rest g op old tag r new
     → IfOk r (λ x. TookOctets f (λ m. Wraps m tag (P m)) old x new)
 inside_took {old = old} {new} {tag} {r} each h = inside_cases old new tag r each h.cases
 

@@ -20,7 +20,7 @@ use Rattle.certs_x509.specs.bcder_content.Grammar.{Many}
 use Rattle.certs_x509.specs.bcder_content.Here.{here}
 use Rattle.certs_x509.specs.bcder_content.Kept.{CapturedValue}
 use Rattle.certs_x509.specs.bcder_content.Memory.{InErr, OnMemory}
-use Rattle.certs_x509.specs.bcder_content.Ran.{Decoded, DecodedCases, RanIn, Reader, failed_in, fresh, refused_in}
+use Rattle.certs_x509.specs.bcder_content.ClosureReads.{Decoded, DecodedCases, ClosureReadsIn, Reader, failed_in, fresh, refused_in}
 use Rattle.certs_x509.specs.certs_basics.Lists.{Mem}
 use Rattle.certs_extension.specs.CrlText.{IsRevoked, RevokedValue}
 use Rattle.certs_x509.specs.Listed.{EntriesLeft, IsListed, SpellsEntries, has_serial}
@@ -69,7 +69,7 @@ no_refusal Memory l h some = some refl
 
 -- What each call of a closure says is said of the call that ran.
 pub ran_met : {F T D : Type 0} {g : Reader F (Constructed Reading) T D} {op : F} {r : Result T (DecodeError D)} {v end : ValuesLeft} (Q : ValuesLeft → ValuesLeft → Type 0)
-    → ((p q : MutBor (Constructed Reading)) → g.post op (p, tt) (r, (q, tt)) → Q (here rest_of p.now) (here rest_of q.now)) → RanIn rest_of g op v r end → Q v end
+    → ((p q : MutBor (Constructed Reading)) → g.post op (p, tt) (r, (q, tt)) → Q (here rest_of p.now) (here rest_of q.now)) → ClosureReadsIn rest_of g op v r end → Q v end
 ran_met {v = v} {end} Q each on =
     let at = each on.met.shown on.met.left on.met.met in
     let given = subst (λ (w : Constructed Reading). Q (here rest_of w) (here rest_of on.met.left.now)) on.met.shows at in
@@ -98,10 +98,10 @@ pub record Tells {F T : Type 0} (g : Reader F (Constructed Reading) T Infallible
       → (xs : List RevokedValue) → EntriesLeft (here rest_of p.now) xs → (here rest_of q.now).failed ≡ false
 
 module _ {F T : Type 0} {g : Reader F (Constructed Reading) T Infallible} {op : F} {says : List RevokedValue → T → Type 0} where
-  refused : {v end : ValuesLeft} {e : DecodeError Infallible} {xs : List RevokedValue} → Tells g op says → EntriesLeft v xs → RanIn rest_of g op v (Err e) end → ⊥
+  refused : {v end : ValuesLeft} {e : DecodeError Infallible} {xs : List RevokedValue} → Tells g op says → EntriesLeft v xs → ClosureReadsIn rest_of g op v (Err e) end → ⊥
   refused {e = e} {xs} t l on = let wrong : IsOk {T = T} (Err e) = ran_met (λ v w. (ys : List RevokedValue) → EntriesLeft v ys → IsOk {T = T} (Err e)) (λ p q h. t.ok p q (Err e) h) on xs l in absurd cc
 
-  failed : {v end : ValuesLeft} {x : T} {xs : List RevokedValue} → Tells g op says → EntriesLeft v xs → RanIn rest_of g op v (Ok x) end → end.failed ≡ true → ⊥
+  failed : {v end : ValuesLeft} {x : T} {xs : List RevokedValue} → Tells g op says → EntriesLeft v xs → ClosureReadsIn rest_of g op v (Ok x) end → end.failed ≡ true → ⊥
   failed {end = end} {x} {xs} t l on bad =
       let good = ran_met (λ v w. (ys : List RevokedValue) → EntriesLeft v ys → w.failed ≡ false) (λ p q h. t.sound p q (Ok x) h) on xs l in
       let wrong : true ≡ false = sym bad ∙ good in

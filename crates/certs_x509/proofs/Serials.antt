@@ -30,9 +30,6 @@ use Rattle.certs_x509.proofs.Lists.{left_first, left_none}
 pub record Collected (serials : List ℕ) (start now : ValuesLeft) : Type 0 where
   pub behind : (xs : List RevokedValue) → EntriesLeft start xs → (ys : List RevokedValue) × EntriesLeft now ys × (serials_of xs ≡ serials ++ serials_of ys)
 
-pub collected_none : {v : ValuesLeft} → Collected [] v v
-collected_none = record { behind = λ xs l. (xs, l, refl) }
-
 pub collected_more : {serials more : List ℕ} {start now new : ValuesLeft} {x : RevokedValue} → Collected serials start now → Gives IsRevoked now x new
     → more ≡ serials ++ x.serial ∷ [] → Collected more start new
 collected_more {serials} {more} {x = x} p g e = record {

@@ -21,7 +21,7 @@ use Rattle.certs_x509.specs.bcder_content.Contents.{TookAll, ValuesLeft, octets}
 use Rattle.certs_x509.specs.bcder_content.Exact.{Gives, LacksTagged}
 use Rattle.certs_x509.specs.bcder_content.Here.{here}
 use Rattle.certs_x509.specs.bcder_content.Kept.{CapturedValue}
-use Rattle.certs_x509.specs.bcder_content.Ran.{Reader, fresh}
+use Rattle.certs_x509.specs.bcder_content.ClosureReads.{Reader, fresh}
 use Rattle.certs_x509.proofs.of_bcder_content.Forests.{Perhaps, absent, there}
 use Rattle.certs_x509.proofs.of_bcder_content.Kept.{same_text}
 use Rattle.certs_x509.proofs.of_bcder_content.Took.{ended_none, took_front, took_none, took_one}

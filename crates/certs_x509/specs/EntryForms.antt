@@ -37,7 +37,10 @@ serial = record {
   is_read = λ s n m ts l p. record {
     tree = primitive integer_tag p.content;
     alone = p.whole;
-    is = record { is = record { content = p.content; whole = refl; is = p.is.is }; meets = p.is.small };
+    is = record {
+      is = record { content = p.content; whole = refl; is = p.is.is };
+      meets = p.is.small;
+    };
   };
   one_meaning = λ s m c. serial_one;
 }
@@ -55,22 +58,35 @@ pub record WritesMoment (moment : ℕ) (m : Mode) (text : List ℕ) : Type 0 whe
   pub is : WritesTime moment (primitive tag content)
   pub plain : WritesPlain m tag (λ octets. AnyOctets octets content) text
 
-pub moment_spelled : (moment : ℕ) (m : Mode) (text : List ℕ) → WritesMoment moment m text → SpellsSome m (AreMoment moment) text
+pub moment_spelled : (moment : ℕ) (m : Mode) (text : List ℕ) → WritesMoment moment m text
+    → SpellsSome m (AreMoment moment) text
 moment_spelled moment m text w =
     let s = plain_spelled m text w.plain in
-    record { trees = s.trees; is = record { tag = w.tag; content = w.content; is = w.is; plain = s.is }; spelled = s.spelled }
+    record {
+      trees = s.trees;
+      is = record {
+        tag = w.tag;
+        content = w.content;
+        is = w.is;
+        plain = s.is;
+      };
+      spelled = s.spelled;
+    }
 
 -- A primitive value has one tag and one content.
-pub same_parts : {tag other : TagValue} {content octets : List ℕ} → primitive tag content ≡ primitive other octets → (tag ≡ other) × (content ≡ octets)
+pub same_parts : {tag other : TagValue} {content octets : List ℕ}
+    → primitive tag content ≡ primitive other octets → (tag ≡ other) × (content ≡ octets)
 same_parts e = (ap tag_of e, cc)
 
-pub moment_one : (moment : ℕ) (m : Mode) (a b : List ℕ) → WritesMoment moment m a → WritesMoment moment m b → a ≡ b
+pub moment_one : (moment : ℕ) (m : Mode) (a b : List ℕ) → WritesMoment moment m a
+    → WritesMoment moment m b → a ≡ b
 moment_one moment m a b v w =
     let same = same_parts (one_written moment (primitive v.tag v.content) (primitive w.tag w.content) v.is w.is) in
     let tagged = subst (λ (t : TagValue). WritesPlain m t (λ octets. AnyOctets octets v.content) a) same.0 v.plain in
     plain_one m (one_string w.content) a b (subst (λ (o : List ℕ). WritesPlain m w.tag (λ octets. AnyOctets octets o) a) same.1 tagged) w.plain
 
-pub time_tagged : (t : Tree) (moment : ℕ) → IsTime t moment → (tag_of t ≡ utc_time_tag) ⊎ (tag_of t ≡ generalized_time_tag)
+pub time_tagged : (t : Tree) (moment : ℕ) → IsTime t moment → (tag_of t ≡ utc_time_tag)
+    ⊎ (tag_of t ≡ generalized_time_tag)
 time_tagged t moment p = elim p.cases [
   | inl q ↦ inl (ap tag_of q.whole)
   | inr q ↦ inr (ap tag_of q.whole)
@@ -92,7 +108,8 @@ moment = record {
   is_read = λ s n m ts l p. record {
     tree = primitive p.tag p.plain.content;
     alone = p.plain.whole;
-    is = subst (λ (o : List ℕ). IsTime (primitive p.tag o) n) (sym p.plain.is.same) (written_time n (primitive p.tag p.content) p.is);
+    is = subst (λ (o : List ℕ). IsTime (primitive p.tag o) n) (sym p.plain.is.same)
+        (written_time n (primitive p.tag p.content) p.is);
   };
   one_meaning = λ s m c. time_one;
 }

@@ -42,7 +42,9 @@ abbrev pub serials_of : List RevokedValue → List ℕ
 serials_of = map (λ entry. entry.serial)
 
 -- A list that may be absent: no entries then.
-abbrev pub ReadsList : {E : Type 0} → ValuesLeft → Result (List RevokedValue) (DecodeError E) → ValuesLeft → Type 0
+abbrev pub ReadsList : {E : Type 0} → ValuesLeft → Result (List RevokedValue) (DecodeError E)
+    → ValuesLeft → Type 0
 ReadsList {E} old (Ok xs) new =
-    (o : Option (List RevokedValue)) × ReadsOptAs {E = E} (λ l. l) sequence_tag AreRevoked old (Ok o) new × (xs ≡ entries o)
+    (o : Option (List RevokedValue)) × ReadsOptAs {E = E} (λ l. l) sequence_tag AreRevoked old
+    (Ok o) new × (xs ≡ entries o)
 ReadsList old (Err e) new = OnContent e (LacksTagged sequence_tag AreRevoked old)

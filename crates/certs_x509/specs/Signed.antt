@@ -78,7 +78,9 @@ abbrev pub lent : Lent → Form Fields
 lent l = wrapped l.0.0 (both (kept any) (both (algorithm_of l.0.1.0) (last (bits_at l.0.1.1))))
 
 abbrev pub lends : TagValue → CapturedValue → List ℕ × Bool → TagValue × BitsValue → Lent
-lends tag message algorithm bits = ((tag, (algorithm.0, bits.0)), (kept_message message, (algorithm.1, (bits.1, tt))))
+lends tag message algorithm bits =
+    ((tag, (algorithm.0, bits.0)), (kept_message message, (algorithm.1, (bits.1, tt))))
 
 abbrev pub signed_lends : SignedDataValue → Lent
-signed_lends s = lends sequence_tag s.message (sha256_with_rsa, s.signature.algorithm) (bit_string_tag, s.signature.bits)
+signed_lends s = lends sequence_tag s.message (sha256_with_rsa, s.signature.algorithm)
+    (bit_string_tag, s.signature.bits)

@@ -13,7 +13,7 @@ use Rattle.example_c.specs.bcder_content.declared.constructed.Constructed.{Const
 use Rattle.example_c.specs.bcder_content.Captures.{rest_of}
 use Rattle.example_c.specs.bcder_content.Contents.{ValuesLeft}
 use Rattle.example_c.specs.bcder_content.Memory.{InErr, OnMemory}
-use Rattle.example_c.specs.bcder_content.Ran.{Reader}
+use Rattle.example_c.specs.bcder_content.ClosureReads.{Reader}
 use Rattle.example_c.specs.Numbers.{IsNumber, Says}
 
 never : Infallible → ⊥

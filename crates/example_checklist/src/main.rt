@@ -14,7 +14,7 @@ mod signatures;
 use anyhow::{Result, anyhow};
 use certs_verify::{Cert, ResourceCert, TalInfo, Validate};
 use certs_x509::errors::Time;
-use listed::{File, is_checked};
+use listed::{File, Terms, is_checked};
 use objects::rsc::Rsc;
 use rpki_digests::Fips;
 use signatures::StandIn;
@@ -58,7 +58,12 @@ fn checked(
     file: File<'_>,
 ) -> Result<bool> {
     let mut verifier = StandIn { asked: 0 };
-    match is_checked(alloc, rsc, issuer, now, &mut verifier, |_| Ok(()), file) {
+    let mut terms = Terms {
+        issuer,
+        moment: now,
+        verifier: &mut verifier,
+    };
+    match is_checked(alloc, rsc, &mut terms, |_| Ok(()), file) {
         Ok(yes) => Ok(yes),
         Err(error) => {
             let told = anyhow!("{error}");

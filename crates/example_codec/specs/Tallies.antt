@@ -23,10 +23,12 @@ abbrev pub Lent : Type 0
 Lent = (TagValue × (TagValue × (TagValue × TagValue))) × Fields
 
 abbrev pub lent : Lent → Form Fields
-lent l = wrapped l.0.0 (both (unsigned_at (2 ^ 16) l.0.1.0) (both (unsigned_at (2 ^ 64) l.0.1.1.0) (last (boolean_at l.0.1.1.1))))
+lent l = wrapped l.0.0 (both (unsigned_at (2 ^ 16) l.0.1.0)
+    (both (unsigned_at (2 ^ 64) l.0.1.1.0) (last (boolean_at l.0.1.1.1))))
 
 abbrev pub lends : TagValue → TagValue × ℕ → TagValue × ℕ → TagValue × Bool → Lent
 lends t a b d = ((t, (a.0, (b.0, d.0))), (a.1, (b.1, (d.1, tt))))
 
 abbrev pub tally_lends : Tally → Lent
-tally_lends t = lends sequence_tag (integer_tag, t.station) (integer_tag, t.count) (boolean_tag, t.closed)
+tally_lends t =
+    lends sequence_tag (integer_tag, t.station) (integer_tag, t.count) (boolean_tag, t.closed)

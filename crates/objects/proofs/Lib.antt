@@ -8,7 +8,6 @@ pub mod Refused
 pub mod RoaAgain
 pub mod SignedAgain
 pub mod Standing
-pub mod Taking
 pub mod Texts
 pub mod Trees
 pub mod Writing

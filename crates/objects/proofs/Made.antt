@@ -1,5 +1,5 @@
 -- What is written of a manifest that is put together, and why its content isn't made.
-use Rattle.std.proofs.Common.{◌≡◌, ℕ, List, Result, Ok, Err, IfErr, IfOk, sym, subst}
+use Rattle.std.proofs.Common.{◌≡◌, Result, IfErr, IfOk, sym, subst}
 use Rattle.objects_written.specs.bcder_tree.declared.mode.Mode.TheVariants.{Der}
 use Rattle.objects_written.specs.bcder_content.Kept.{CapturedValue}
 use Rattle.objects_written.specs.bcder_content.Texts.{SpellsOf}
@@ -11,7 +11,6 @@ use Rattle.objects_written.specs.Manifests.{AreFileNames, IsManifestNumber, Mani
 use Rattle.objects_written.proofs.Told.{manifest_told}
 use Rattle.objects.specs.Making.{IsCause, MakingRefused}
 use Rattle.objects.specs.declared.again.making.ManifestError.{ManifestError}
-use Rattle.objects.specs.declared.again.making.ManifestError.TheVariants.{TooLong, Memory}
 
 pub parts_again : {E : Type 0} (x : Manifest) (p : ManifestParts) → p ≡ manifest_parts x → IsManifestNumber x.number → (r : Result CapturedValue E) → IfOk r (λ c. (written_manifest p).writes Der c.octets)
     → IfOk r (λ c. AreFileNames x.files → SpellsOf Der IsManifest c.octets x)
@@ -27,12 +26,3 @@ cause_told x names errors.CerUnsupported r c h = subst (MakingRefused x) (sym c)
 cause_told x names errors.TooLong r c h = subst (MakingRefused x) (sym c) (names, h)
 cause_told x names errors.Write r c h = absurd h
 cause_told x names errors.Memory r c h = subst (MakingRefused x) (sym c) names
-
--- The content is the manifest.
-pub content_told : {E : Type 0} (x : Manifest) (octets : List ℕ) → SpellsOf Der IsManifest octets x → (r : Result Manifest E) → IfOk r (λ m. (y : Manifest) → SpellsOf Der IsManifest octets y → m ≡ y) → IfOk r (λ m. m ≡ x)
-content_told x octets s (Ok m) h = h x s
-content_told x octets s (Err e) h = tt
-
-pub content_refused : {A : Type 0} (x : Manifest) → AreFileNames x.files → (r : Result A ManifestError) → IfErr r (λ e. e ≡ Memory) → IfErr r (MakingRefused x)
-content_refused x names (Ok m) h = tt
-content_refused x names (Err e) h = subst (MakingRefused x) (sym h) names

@@ -9,8 +9,8 @@ use Rattle.objects.specs.objects_payload.Identifiers as id
 use Rattle.objects.specs.objects_payload.Roas.{IsRoa, Roa, RoaAddress, RoaText}
 use Rattle.objects.specs.objects_written.Roas.{AreOfFamilies, HasAddress, roa}
 use Rattle.objects.specs.resources_chain.Claims.{Choice}
-use Rattle.objects.specs.resources_chain.Sets.{InRuns, IsRunsOf, Run}
-use Rattle.objects.specs.resources_chain.declared.choice.ResourcesChoice.TheVariants.{Blocks, Missing}
+use Rattle.objects.specs.resources_chain.Sets.{Run}
+use Rattle.objects.specs.resources_chain.declared.choice.ResourcesChoice.TheVariants.{Missing}
 use Rattle.objects.specs.resources_ip_prefix.Encodings.{FirstBits, prefix_bits}
 use Rattle.objects.specs.resources_ip_prefix.Prefix.{run_of_prefix}
 use Rattle.objects.specs.resources_ip_prefix.Prefixes.{prefix_run}
@@ -33,15 +33,6 @@ pushed_more all blocks new rest left a p before first same pushed =
 -- No prefix is left.
 pub pushed_all : (all blocks : List Run) (left : List RoaAddress) → all ≡ blocks ++ runs_of left → left ≡ [] → blocks ≡ all
 pushed_all all blocks left before none = sym (before ∙ ap (λ (l : List RoaAddress). blocks ++ runs_of l) none ∙ append-nil blocks)
-
--- No prefix lists nothing.
-pub none_listed : (addresses : List RoaAddress) (choice : Choice) → addresses ≡ [] → choice ≡ Missing → AreResourcesOf addresses choice
-none_listed addresses choice none missing = subst (λ (l : List RoaAddress). AreResourcesOf l choice) (sym none) missing
-
--- The set of some prefixes is what they are as resources.
-pub set_of_some : (addresses : List RoaAddress) (set : List Run) (choice : Choice) → addresses ≢ [] → choice ≡ Blocks set → IsRunsOf (InRuns (runs_of addresses)) set → AreResourcesOf addresses choice
-set_of_some [] set choice some is set_is = absurd (some refl)
-set_of_some (a ∷ others) set choice some is set_is = (set, is, set_is)
 
 said : (addresses : List RoaAddress) (choice : Choice) → AreResourcesOf addresses choice → addresses ≢ [] → choice ≢ Missing
 said [] choice p some = absurd (some refl)

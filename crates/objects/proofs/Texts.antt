@@ -1,20 +1,16 @@
 -- What is written again of an object is read again.
 use Rattle.std.proofs.Common.{◌≡◌, ℕ, Bool, List, [], true, refl, sym, ap, ◌∙◌, subst, append-nil}
 use Rattle.objects_written.specs.bcder_tree.declared.mode.Mode.TheVariants.{Der}
-use Rattle.objects_written.specs.bcder_tree.Tags.{TagValue, context, universal}
-use Rattle.objects_written.specs.bcder_tree.Tree.{Tree, Trees, more, none, primitive}
-use Rattle.objects_written.specs.bcder_tree.Strings.{IsOctetString}
+use Rattle.objects_written.specs.bcder_tree.Tree.{Tree}
 use Rattle.certs_cert.specs.bcder_octets.Bits.{BitsValue}
 use Rattle.certs_cert.specs.bcder_octets.BitContents.{IsBitString, IsPadded, bit_string_tag, padded_in}
-use Rattle.objects_written.specs.bcder_content.Grammar.{End, Inside, OctetsOf, Then}
+use Rattle.objects_written.specs.bcder_content.Grammar.{OctetsOf}
 use Rattle.objects_written.specs.bcder_content.Kept.{CapturedValue}
-use Rattle.objects_written.specs.bcder_content.Texts.{InOrder, Joins, NoOctets, SpellsOf, WithOctets, Wraps}
-use Rattle.objects_written.specs.bcder.Identifiers.{IsIdentifier, IsOid}
+use Rattle.objects_written.specs.bcder_content.Texts.{InOrder, SpellsOf, WithOctets}
+use Rattle.objects_written.specs.bcder.Identifiers.{IsIdentifier}
 use Rattle.objects_written.specs.bcder_values.Captures.{CapturedText}
-use Rattle.objects_written.specs.bcder_values.Forms.{Alone}
-use Rattle.objects_written.specs.bcder_primitive.Encoded.{WritesBoth, WritesWrapped}
-use Rattle.objects_written.specs.bcder.Kinds.{bits, octets, octets_at, oid}
-use Rattle.certs_key.proofs.Written.{algorithm_spelled, cms_spelled, digest_spelled, digests_spelled}
+use Rattle.objects_written.specs.bcder.Kinds.{bits, octets}
+use Rattle.certs_key.proofs.Written.{algorithm_spelled}
 use Rattle.certs_cert.specs.certs_x509.Signed.{SignedDataValue, signed, signed_fields}
 use Rattle.objects_written.specs.certs_key.Algorithms.{x509_algorithm}
 use Rattle.objects_written.specs.certs_basics.Basics.{IsAlgorithm, IsTwentyLong}
@@ -23,33 +19,13 @@ use Rattle.objects_written.specs.certs_extension.Cert.{CertValue, TbsValue}
 use Rattle.objects_written.specs.certs_extension.CertText.{SpellsCert, SpellsTbs}
 use Rattle.certs.specs.Laws.{ReadIsBuilt, as_read}
 use Rattle.objects_written.specs.objects_payload.Contents.{ReadsAs}
-use Rattle.objects_written.specs.objects_payload.Identifiers as id
-use Rattle.objects_written.specs.objects_payload.ObjectText.{AreDigestAlgorithms, IsContentInfo, IsSid, IsThree, Object, ObjectText, SaysObject, SpellsContentInfo, SpellsObject, SpellsSignedData, SpellsSigner, ObjectFields, SignedFields as Signed, SignerFields as Signs, object_of}
+use Rattle.objects_written.specs.objects_payload.ObjectText.{Object, ObjectText, SaysObject, SpellsContentInfo, SpellsObject, ObjectFields, object_of}
 use Rattle.objects_written.specs.objects_payload.SignedAttributes.{AreAttributes, AttributesValue}
-use Rattle.certs.specs.Fields.{version}
-use Rattle.certs.specs.Outputs.{Output, of}
-use Rattle.objects_written.proofs.Words.{inside_of, last_of, spelled_of, then_of}
-use Rattle.objects_written.specs.Frames.{ObjectParts, SignerParts, algorithm, content_info, kept, object, rsa, sha256, signed_data, signer}
+use Rattle.certs.specs.Outputs.{of}
+use Rattle.objects_written.proofs.FrameAgain.{by_trees, ends_of, info_spelled, joins_of, only, signed_of, wraps_of}
+use Rattle.objects_written.proofs.Words.{spelled_of}
+use Rattle.objects_written.specs.Frames.{ObjectParts, object}
 use Rattle.objects.specs.Again.{WritesAgain, WritesCertAgain, cert_value, parts_of, with_null}
-
--- Words: grammars of octets.
-
-wraps_of : {A : Type 0} {tag : TagValue} (Q : List ℕ → A → Type 0) {x : A} {P : List ℕ → Type 0} → ((o : List ℕ) → P o → Q o x) → (text : List ℕ) → WritesWrapped Der tag P text → Wraps Der tag Q text x
-wraps_of Q f text w = record { content = w.content; around = w.spelled; is = f w.content w.is }
-
-joins_of : {A B : Type 0} {Q : List ℕ → A → Type 0} {R : List ℕ → B → Type 0} {x : A} {y : B} {P S : List ℕ → Type 0} → ((o : List ℕ) → P o → Q o x) → ((o : List ℕ) → S o → R o y)
-    → (text : List ℕ) → WritesBoth P S text → Joins Q R text (x, y)
-joins_of f g text w = record { first = w.first; others = w.second; whole = w.whole; is = f w.first w.is_first; rest = g w.second w.is_second }
-
-ends_of : {A : Type 0} {Q : List ℕ → A → Type 0} {x : A} {P : List ℕ → Type 0} → ((o : List ℕ) → P o → Q o x) → (text : List ℕ) → P text → Joins Q NoOctets text (x, tt)
-ends_of f text w = record { first = text; others = []; whole = sym (append-nil text); is = f text w; rest = record { none = refl } }
-
--- One value, as its trees say.
-by_trees : {A : Type 0} {Q : Tree → A → Type 0} {x : A} (o : Output) → ((ts : Trees) → o.trees Der ts → Alone Q x ts) → (text : List ℕ) → o.writes Der text → SpellsOf Der Q text x
-by_trees o f text w = let s = o.spelled Der text w in spelled_of Der (record { trees = s.trees; is = f s.trees s.is; spelled = s.spelled })
-
-only : {A : Type 0} {Q : Tree → A → Type 0} {x : A} {ts : Trees} → Then Q End ts (x, tt) → Alone Q x ts
-only p = record { tree = p.first; alone = p.whole ∙ ap (more p.first) p.rest.ended; is = p.is }
 
 -- The certificate: what was signed is the octets that were read.
 
@@ -83,90 +59,6 @@ cert_again built c old text p w =
     let mode : c.signed.mode ≡ Der = ap (λ (k : CertValue). k.signed.mode) p.says in
     let same : as_read (cert_value c) c.tbs ≡ c = built (cert_value c) c.tbs refl (bits_padded p) ∙ (λ i. record { signed = record c.signed { mode = sym mode i }; tbs = c.tbs }) in
     subst (SpellsCert Der text) same (signed_is (cert_value c) c.tbs (tbs_stands p) text w)
-
--- The constants.
-
-three_spelled : (text : List ℕ) → (version 3).writes Der text → SpellsOf Der IsThree text tt
-three_spelled = by_trees (version 3) (λ ts p. record { tree = primitive (universal 2) p.content; alone = p.whole; is = record { content = p.content; whole = refl; is = record { is = p.is.is } } })
-
-sha256_spelled : (text : List ℕ) → (algorithm sha256).writes Der text → SpellsOf Der id.IsDigestAlgorithm text tt
-sha256_spelled text w = let s = digest_spelled Der text w in spelled_of Der (record { trees = s.trees; is = only s.is; spelled = s.spelled })
-
-rsa_spelled : (text : List ℕ) → (algorithm rsa).writes Der text → SpellsOf Der id.IsSignatureAlgorithm text true
-rsa_spelled text w = let s = cms_spelled Der text w in spelled_of Der (record { trees = s.trees; is = only s.is; spelled = s.spelled })
-
-sha256_set_spelled : (text : List ℕ) → WritesWrapped Der (universal 17) ((algorithm sha256).writes Der) text → SpellsOf Der AreDigestAlgorithms text (tt, tt)
-sha256_set_spelled text w = let s = digests_spelled Der text w in spelled_of Der (record { trees = s.trees; is = only s.is; spelled = s.spelled })
-
-signed_data_spelled : (text : List ℕ) → (of oid id.signed_data).writes Der text → SpellsOf Der (id.TheOid id.signed_data) text tt
-signed_data_spelled = by_trees (of oid id.signed_data) (λ ts p. record { tree = primitive (universal 6) p.content; alone = p.whole; is = record { content = p.content; whole = refl; is = record { same = p.is.same } } })
-
--- Strings.
-
-string_alone : (tag : TagValue) (v : List ℕ) (ts : Trees) → (of (octets_at tag) v).trees Der ts → ts ≡ more (primitive tag v) none
-string_alone tag v ts p = p.whole ∙ ap (λ (o : List ℕ). more (primitive tag o) none) p.is.same
-
-string_spelled : (v text : List ℕ) → (of octets v).writes Der text → SpellsOf Der (IsOctetString Der) text v
-string_spelled v = by_trees (of octets v) (λ ts p. record { tree = primitive (universal 4) v; alone = string_alone (universal 4) v ts p; is = refl })
-
-sid_spelled : (v : List ℕ) → IsTwentyLong v → (text : List ℕ) → (of (octets_at (context 0)) v).writes Der text → SpellsOf Der (IsSid Der) text v
-sid_spelled v long = by_trees (of (octets_at (context 0)) v) (λ ts p. record { tree = primitive (context 0) v; alone = string_alone (context 0) v ts p; is = record { is = refl; meets = long } })
-
--- The content with its type.
-type_alone : (v : List ℕ) → IsIdentifier v → (ts : Trees) → (of oid v).trees Der ts → Alone (OctetsOf (universal 6) IsOid) v ts
-type_alone v known ts p = record {
-  tree = primitive (universal 6) p.content;
-  alone = p.whole;
-  is = record { content = p.content; whole = refl; is = record { same = p.is.same; is = subst IsIdentifier (sym p.is.same) known } };
-}
-
-content_spelled : (kind content : List ℕ) → IsIdentifier kind → (text : List ℕ) → (content_info kind content).writes Der text → SpellsOf Der (IsContentInfo Der) text (kind, ((content, tt), tt))
-content_spelled kind content known = by_trees (content_info kind content) (λ ts p.
-    inside_of (Then (OctetsOf (universal 6) IsOid) (Then (Inside (context 0) (Then (IsOctetString Der) End)) End))
-    (then_of (type_alone kind known) (last_of (inside_of (Then (IsOctetString Der) End) (last_of (λ us q. record { tree = primitive (universal 4) content; alone = string_alone (universal 4) content us q; is = refl })))))
-    ts p)
-
--- The signer.
-
-abbrev signs : SignerParts → AttributesValue → Signs
-signs s a = (tt, (s.sid, (tt, ((s.attributes.octets, a), (true, (s.signature, tt))))))
-
-kept_attributes : (c : CapturedValue) (a : AttributesValue) → InOrder Der (AreAttributes Der) c.octets a → (text : List ℕ) → (kept c).writes Der text → WithOctets (InOrder Der (AreAttributes Der)) text (c.octets, a)
-kept_attributes c a is text w = record { same = sym w.whole; is = subst (λ (o : List ℕ). InOrder Der (AreAttributes Der) o a) (sym w.whole) is }
-
-signer_spelled : (s : SignerParts) (a : AttributesValue) → IsTwentyLong s.sid → InOrder Der (AreAttributes Der) s.attributes.octets a → (text : List ℕ) → (signer s).writes Der text → SpellsSigner Der text (signs s a)
-signer_spelled s a long is =
-    wraps_of _
-    (joins_of three_spelled
-    (joins_of (sid_spelled s.sid long)
-    (joins_of sha256_spelled
-    (joins_of (wraps_of _ (kept_attributes s.attributes a is))
-    (joins_of rsa_spelled
-    (ends_of (string_spelled s.signature)))))))
-
--- The data.
-
-abbrev signed_of : ObjectParts → CertValue → AttributesValue → Signed
-signed_of o c a = (tt, ((tt, tt), ((o.content_type, ((o.content, tt), tt)), ((c, tt), ((signs o.signer a, tt), tt)))))
-
-kept_cert : (k : CapturedValue) (c : CertValue) → SpellsCert Der k.octets c → (text : List ℕ) → (kept k).writes Der text → SpellsCert Der text c
-kept_cert k c is text w = subst (λ (o : List ℕ). SpellsCert Der o c) (sym w.whole) is
-
--- What has to hold for an object to be read again: its certificate and its attributes are.
-signed_spelled : (o : ObjectParts) (c : CertValue) (a : AttributesValue) → IsIdentifier o.content_type → SpellsCert Der o.cert.octets c → IsTwentyLong o.signer.sid
-    → InOrder Der (AreAttributes Der) o.signer.attributes.octets a → (text : List ℕ) → (signed_data o).writes Der text → SpellsSignedData Der text (signed_of o c a)
-signed_spelled o c a known cert long is =
-    wraps_of _
-    (joins_of three_spelled
-    (joins_of sha256_set_spelled
-    (joins_of (content_spelled o.content_type o.content known)
-    (joins_of (wraps_of _ (ends_of (kept_cert o.cert c cert)))
-    (ends_of (wraps_of _ (ends_of (signer_spelled o.signer a long is))))))))
-
-info_spelled : (o : ObjectParts) (c : CertValue) (a : AttributesValue) → IsIdentifier o.content_type → SpellsCert Der o.cert.octets c → IsTwentyLong o.signer.sid
-    → InOrder Der (AreAttributes Der) o.signer.attributes.octets a → (text : List ℕ) → (object o).writes Der text → SpellsContentInfo Der text (tt, ((signed_of o c a, tt), tt))
-info_spelled o c a known cert long is =
-    wraps_of _ (joins_of signed_data_spelled (ends_of (wraps_of _ (ends_of (signed_spelled o c a known cert long is)))))
 
 -- What was read of an object: its type of content, its certificate, its key and its attributes are such.
 

@@ -1,17 +1,14 @@
 -- What is written in DER of an object, and of its certificate, are values.
-use Rattle.std.proofs.Common.{ℕ, Bool, true, false, List, [], ◌∷◌, inr, refl, arith}
+use Rattle.std.proofs.Common.{ℕ, Bool, true, false, List, [], ◌∷◌, refl, arith}
 use Rattle.objects_written.specs.bcder_tree.declared.mode.Mode.TheVariants.{Der}
 use Rattle.objects_written.specs.bcder_tree.Tags.{TagValue, context, universal}
 use Rattle.objects_written.specs.bcder_tree.Tree.{Trees, constructed, more, none, primitive}
-use Rattle.objects_written.specs.bcder_content.Kept.{SpellsValues}
-use Rattle.objects_written.specs.bcder_values.Captures.{CapturedTrees}
 use Rattle.objects_written.specs.bcder_primitive.Encoded.{AreBoth, IsWrapped, NoTree, joined}
-use Rattle.objects_written.specs.bcder.Kinds.{null, octets, octets_at, oid, that_oid}
+use Rattle.objects_written.specs.bcder.Kinds.{null, octets_at, oid, that_oid}
 use Rattle.objects_written.specs.certs_key.Algorithms.{algorithm_of}
 use Rattle.objects_written.specs.objects_payload.Identifiers as id
 use Rattle.certs.specs.Fields.{version}
-use Rattle.objects_written.specs.Frames.{ObjectParts, SignerParts, content_info, kept, object, sha256, signed_data, signer}
-use Rattle.objects.specs.Taking.{in_der}
+use Rattle.objects_written.specs.Frames.{ObjectParts, SignerParts, content_info, kept, object, signed_data, signer}
 
 -- Some values.
 abbrev Some : (Trees → Type 0) → Type 0
@@ -22,9 +19,6 @@ wrapped_some {tag} p = (more (constructed tag p.0) none, record { values = p.0; 
 
 both_some : {T U : Trees → Type 0} → Some T → Some U → Some (AreBoth T U)
 both_some p q = (joined p.0 q.0, record { first = p.0; second = q.0; is_first = p.1; is_second = q.1; whole = refl })
-
-kept_some : (o : List ℕ) → SpellsValues Der o → Some (CapturedTrees (in_der o) Der)
-kept_some o s = (s.trees, record { stands = inr refl; spelled = s.spelled })
 
 string_some : (tag : TagValue) (v : List ℕ) → Some ((octets_at tag).trees v Der)
 string_some tag v = (more (primitive tag v) none, record { content = v; is = record { same = refl }; whole = refl })

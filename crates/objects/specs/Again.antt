@@ -13,14 +13,7 @@ use Rattle.certs_cert.specs.certs_x509.Signed.{SignedDataValue, signed, signed_f
 use Rattle.objects_written.specs.objects_payload.SignedAttributes.{AttributesValue}
 use Rattle.objects_cms.specs.Signer.{AreKeptOctets}
 use Rattle.objects_written.specs.Frames.{ObjectParts, object}
-use Rattle.objects.specs.Taking.{in_der}
-
--- Why octets aren't taken as values in DER: they are none, or there is no memory.
-abbrev pub DerRefused : List ℕ → EncodeError → Type 0
-DerRefused octets errors.CerUnsupported = SpellsValues Der octets → ⊥
-DerRefused octets errors.TooLong = ⊥
-DerRefused octets errors.Write = ⊥
-DerRefused octets errors.Memory = Unit {0}
+use Rattle.objects_written.specs.Taking.{in_der}
 
 -- What was signed of the certificate, and the attributes, are values in DER. Both are signed as they stand, so they can't be
 -- written otherwise (RFC 5280 4.1.1, RFC 5652 5.4).

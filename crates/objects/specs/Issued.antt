@@ -20,7 +20,8 @@ inheriting b = record b { v4 = Inherit; v6 = Inherit; asn = Inherit }
 
 -- The object of a manifest's content in DER, whose certificate has the builder's fields and all resources of the issuer. Its
 -- number is below 2^160, as each `Serial` is.
-pub record IsManifestFor (d : Digests) (b : BuilderValue) (m : Manifest) (octets : List ℕ) : Type 0 where
+pub record IsManifestFor (d : Digests) (b : BuilderValue) (m : Manifest) (octets : List ℕ)
+    : Type 0 where
   pub number_is : IsManifestNumber m.number
   pub content : List ℕ
   pub content_is : (manifest m).writes Der content

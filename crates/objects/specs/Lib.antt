@@ -4,7 +4,6 @@ pub mod Issued
 pub mod Making
 pub mod Providers
 pub mod Refusing
-pub mod Taking
 pub mod Uris
 pub mod Written
 -- What stands below, for the crates above.

@@ -12,13 +12,16 @@ abbrev pub file_of : List ℕ → List ℕ → File
 file_of name hash = record { name = name; hash = hash }
 
 abbrev pub manifest_of : ℕ → ℕ → ℕ → List File → Manifest
-manifest_of number this next files = record { number = number; this_update = this; next_update = next; files = files }
+manifest_of number this next files =
+    record { number = number; this_update = this; next_update = next; files = files }
 
 -- Why the content of a manifest isn't made: a file has another name; there are good names, and no content of octets that
 -- can be counted, or no memory.
 abbrev pub MakingRefused : Manifest → ManifestError → Type 0
 MakingRefused x FileName = AreFileNames x.files → ⊥
-MakingRefused x TooLong = AreFileNames x.files × ((text : List ℕ) → (manifest x).writes Der text → length text < 2 ^ 64 → ⊥)
+MakingRefused x TooLong =
+    AreFileNames x.files
+    × ((text : List ℕ) → (manifest x).writes Der text → length text < 2 ^ 64 → ⊥)
 MakingRefused x Memory = AreFileNames x.files
 
 -- Where a content isn't written, the cause is memory, or that it is too long.

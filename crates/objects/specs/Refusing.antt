@@ -11,6 +11,8 @@ abbrev pub CanWrite : (List ℕ → Type 0) → Type 0
 CanWrite P = (text : List ℕ) × P text
 
 -- Nothing can be written of it, or of an object of that kind with it, and with fields that `Fields` says.
-abbrev pub CannotSignContent : Digests → (KeyValue → Type 0) → (KeyValue → List ℕ → List ℕ → Type 0) → List ℕ → (List ℕ → Type 0) → (BuilderValue → Type 0) → Type 0
+abbrev pub CannotSignContent : Digests → (KeyValue → Type 0) → (KeyValue → List ℕ → List ℕ → Type 0)
+    → List ℕ → (List ℕ → Type 0) → (BuilderValue → Type 0) → Type 0
 CannotSignContent d HasKey SignsOnce kind P Fields =
-    (Writable P → ⊥) ⊎ ((content : List ℕ) × P content × (fields : BuilderValue) × Fields fields × IsTooLong d fields kind content HasKey SignsOnce)
+    (Writable P → ⊥) ⊎ ((content : List ℕ) × P content × (fields : BuilderValue) × Fields fields
+    × IsTooLong d fields kind content HasKey SignsOnce)

@@ -18,7 +18,8 @@ IsUriOf base f (Err BadUri) = All IsUriOctet f.name → ⊥
 IsUriOf base f (Err Memory) = All IsUriOctet f.name
 
 -- The first of the files that were left was given, and the others are left.
-pub record GivesUri (old : UrisLeft) (given : Result (List ℕ × List ℕ) Error) (new : UrisLeft) : Type 0 where
+pub record GivesUri (old : UrisLeft) (given : Result (List ℕ × List ℕ) Error) (new : UrisLeft)
+    : Type 0 where
   pub file : File
   pub first : old.files ≡ file ∷ new.files
   pub base : new.base ≡ old.base

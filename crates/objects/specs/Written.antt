@@ -15,7 +15,8 @@ abbrev pub aspa_parts : Aspa → AspaParts
 aspa_parts a = (1, (a.customer, a.providers))
 
 abbrev pub written_aspa : AspaParts → Output
-written_aspa p = inside sequence_tag (beside (inside (context 0) (version p.0)) (beside (as_id p.1.0) (inside sequence_tag (each as_id p.1.1))))
+written_aspa p = inside sequence_tag (beside (inside (context 0) (version p.0))
+    (beside (as_id p.1.0) (inside sequence_tag (each as_id p.1.1))))
 
 abbrev pub aspa : Aspa → Output
 aspa a = written_aspa (aspa_parts a)

@@ -13,7 +13,6 @@
 pub mod attributes;
 mod cert;
 pub mod content;
-mod der;
 mod kinds;
 pub mod laws;
 pub mod making;

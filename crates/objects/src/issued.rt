@@ -10,7 +10,6 @@
 pub mod addresses;
 pub mod laws;
 pub mod manifests;
-pub mod refusing;
 pub mod roas;
 
 pub use addresses::{ToIpResources, are_of_family};

@@ -1,11 +1,11 @@
 //! Questions about objects that are written again: `strict` or `relaxed`, what they have to be, and octets.
 
-use crate::values::say_unwritten;
 use answers::{Answer, pieces_of, unknown};
 use anyhow::Result;
 use bcder::Mode;
 use bcder::encode::Values;
 use bytes::Bytes;
+use certs_roles::told::unwritten;
 use objects::sigobj::{EncodeObject, ObjectValues};
 use objects_valid::kinds::{Aspa, Manifest, Roa, SignedObject};
 use std::alloc::Global;
@@ -27,7 +27,7 @@ fn compare(
             }
             drop(captured);
         }
-        Err(error) => say_unwritten(answer, error),
+        Err(error) => unwritten(answer, error),
     }
 }
 
@@ -36,7 +36,7 @@ fn written<T: EncodeObject>(alloc: Global, answer: &mut Answer, object: &T) {
     let octets = match object.to_captured(alloc) {
         Ok(captured) => captured.into_bytes(),
         Err(error) => {
-            say_unwritten(answer, error);
+            unwritten(answer, error);
             Bytes::new()
         }
     };
@@ -48,7 +48,7 @@ fn written<T: EncodeObject>(alloc: Global, answer: &mut Answer, object: &T) {
             compare(alloc, answer, &values, Mode::Cer, octets.as_slice());
             drop(values);
         }
-        Err(error) => say_unwritten(answer, error),
+        Err(error) => unwritten(answer, error),
     }
     drop(octets);
 }

@@ -1,8 +1,8 @@
 //! What is answered of the certificate in a signed object.
 
-use crate::values::say_moment;
 use answers::Answer;
 use certs_cert::{Cert, TbsCert};
+use certs_roles::told;
 use sha2::{Digest, Sha256};
 
 // The serial number, whether NULL stands in the algorithm, names as they stand, validity, the key.
@@ -10,8 +10,8 @@ fn holder(answer: &mut Answer, tbs: &TbsCert) {
     answer.say(&tbs.serial_number());
     answer.say(&tbs.signature().has_null());
     answer.octets(tbs.issuer().as_slice());
-    say_moment(answer, tbs.validity().not_before());
-    say_moment(answer, tbs.validity().not_after());
+    told::moment(answer, tbs.validity().not_before());
+    told::moment(answer, tbs.validity().not_after());
     answer.octets(tbs.subject().as_slice());
     answer.octets(tbs.subject_public_key_info().encoded());
 }

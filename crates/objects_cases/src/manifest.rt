@@ -1,9 +1,10 @@
 //! Questions about the content of manifests: what is asked, and octets or a moment.
 
-use crate::values::{moment, say_moment};
+use crate::values::moment;
 use answers::{Answer, pieces_of, unknown};
 use anyhow::{Result, anyhow};
 use bcder::decode::DecodeError;
+use certs_roles::told;
 use objects_cms::manifest::file::is_file_name;
 use objects_cms::manifest::{FileAndHash, ManifestContent};
 use std::alloc::Global;
@@ -20,8 +21,8 @@ fn file(answer: &mut Answer, file: &FileAndHash<'_>) {
 /// The number, both moments, how many files there are, and each of them.
 pub fn shown(answer: &mut Answer, content: &ManifestContent) {
     answer.say(&content.manifest_number());
-    say_moment(answer, content.this_update());
-    say_moment(answer, content.next_update());
+    told::moment(answer, content.this_update());
+    told::moment(answer, content.next_update());
     answer.say(&content.len());
     answer.say(&content.is_empty());
     for listed in content.iter() {

@@ -1,13 +1,13 @@
 //! Questions about signed objects: `strict` or `relaxed`, what they have to be, and octets; about
 //! those with some bits of one octet flipped, octet by octet, and about their proper fronts.
 
-use crate::values::say_moment;
 use crate::{aspa, cert, manifest, roa};
 use answers::{Answer, pieces_of, unknown};
 use anyhow::Result;
 use bcder::OctetString;
 use certs_cert::Cert;
-use objects_valid::kinds::{Aspa, Manifest, Roa, SignedObject, SignerInfo};
+use certs_roles::told;
+use objects_valid::kinds::{Signed, SignedContent, SignedObject, SignerInfo};
 use sha2::{Digest, Sha256};
 use std::alloc::Global;
 use std::str::FromStr;
@@ -36,7 +36,7 @@ fn shown(alloc: Global, answer: &mut Answer, signed: &SignedObject, cert: &Cert)
     answer.octets(signed.content_type().as_slice());
     string(alloc, answer, signed.content());
     match signed.signing_time() {
-        Some(moment) => say_moment(answer, moment),
+        Some(moment) => told::moment(answer, moment),
         None => answer.word("-"),
     }
     answer.some(signed.binary_signing_time().as_ref());
@@ -85,33 +85,20 @@ fn parts(alloc: Global, answer: &mut Answer, strict: bool, octets: &[u8]) {
     }
 }
 
-fn manifest_of(alloc: Global, answer: &mut Answer, strict: bool, octets: &[u8]) {
-    match Manifest::decode(alloc, octets, strict) {
+// An object of that kind, and what its content says.
+fn of_kind<T: SignedContent, F: FnOnce(&mut Answer, &T)>(
+    alloc: Global,
+    answer: &mut Answer,
+    strict: bool,
+    octets: &[u8],
+    tell: F,
+)
+    requires { F.IsAlwaysCallable tell }
+{
+    match Signed::<T>::decode(alloc, octets, strict) {
         Ok(object) => {
             shown(alloc, answer, object.signed(), object.cert());
-            manifest::shown(answer, object.content());
-            drop(object);
-        }
-        Err(error) => answer.refuse(error),
-    }
-}
-
-fn roa_of(alloc: Global, answer: &mut Answer, strict: bool, octets: &[u8]) {
-    match Roa::decode(alloc, octets, strict) {
-        Ok(object) => {
-            shown(alloc, answer, object.signed(), object.cert());
-            roa::shown(answer, object.content());
-            drop(object);
-        }
-        Err(error) => answer.refuse(error),
-    }
-}
-
-fn aspa_of(alloc: Global, answer: &mut Answer, strict: bool, octets: &[u8]) {
-    match Aspa::decode(alloc, octets, strict) {
-        Ok(object) => {
-            shown(alloc, answer, object.signed(), object.cert());
-            aspa::shown(alloc, answer, object.content());
+            tell(answer, object.content());
             drop(object);
         }
         Err(error) => answer.refuse(error),
@@ -123,9 +110,11 @@ fn read(alloc: Global, answer: &mut Answer, strict: bool, kind: &str, octets: &[
     match kind {
         "any" => any(alloc, answer, strict, octets),
         "parts" => parts(alloc, answer, strict, octets),
-        "manifest" => manifest_of(alloc, answer, strict, octets),
-        "roa" => roa_of(alloc, answer, strict, octets),
-        "aspa" => aspa_of(alloc, answer, strict, octets),
+        "manifest" => of_kind(alloc, answer, strict, octets, manifest::shown),
+        "roa" => of_kind(alloc, answer, strict, octets, roa::shown),
+        "aspa" => of_kind(alloc, answer, strict, octets, |answer, content| {
+            aspa::shown(alloc, answer, content)
+        }),
         _ => return unknown(),
     }
     Ok(())

@@ -1,10 +1,11 @@
 //! Questions about the attributes of objects and about their contents.
 
-use crate::values::{say_unwritten, say_written};
+use crate::values::say_written;
 use answers::{Answer, pieces_of, unknown};
 use anyhow::Result;
 use bcder::Mode;
 use bcder::decode::{Constructed, Decode, DecodeError, SliceSource};
+use certs_roles::told::unwritten;
 use objects::sigobj::{DecodeContent, EncodeAttributes, SignedAttrs};
 use objects_valid::kinds::SignedObject;
 use std::alloc::Global;
@@ -17,14 +18,14 @@ fn shown(alloc: Global, answer: &mut Answer, attributes: &SignedAttrs) {
             say_written(alloc, answer, &value);
             drop(value);
         }
-        Err(error) => say_unwritten(answer, error),
+        Err(error) => unwritten(answer, error),
     }
     match attributes.encode_verify(alloc) {
         Ok(value) => {
             say_written(alloc, answer, &value);
             drop(value);
         }
-        Err(error) => say_unwritten(answer, error),
+        Err(error) => unwritten(answer, error),
     }
     match attributes.message_digest(alloc) {
         Ok(digest) => {

@@ -4,7 +4,6 @@
 //! means of its own.
 
 mod below;
-mod stub;
 mod told;
 
 use answers::{Answer, unknown};

@@ -10,8 +10,8 @@ use Rattle.objects_cms.specs.bcder_content.declared.constructed.Constructed.{Con
 use Rattle.objects_cms.specs.bcder_content.Contents.{ValuesLeft}
 use Rattle.objects_cms.specs.bcder_content.Exact.{Gives}
 use Rattle.objects_cms.specs.bcder_content.Here.{here}
-use Rattle.objects_cms.specs.bcder_content.Memory.{InErr, OnMemory, RanErr}
-use Rattle.objects_cms.specs.bcder_content.Ran.{Reader}
+use Rattle.objects_cms.specs.bcder_content.Memory.{InErr, OnMemory, ClosureReadsErr}
+use Rattle.objects_cms.specs.bcder_content.ClosureReads.{Reader}
 use Rattle.objects_cms.specs.objects_payload.Identifiers as id
 use Rattle.objects_cms.specs.objects_payload.ObjectText.{AreDigestAlgorithms, IsThree}
 use Rattle.objects_cms.specs.Begun.{BeginsData, BeginsInfo, BeginsSigned, Opens}
@@ -53,7 +53,7 @@ pub record EachBegins {F S T E : Type 0} (rest : S → List ℕ) (g : Reader F (
 
 -- So the value in front was opened, and its content begins so.
 pub opened : {F S T E : Type 0} {rest : S → List ℕ} {g : Reader F (Constructed S) T E} {op : F} {P : ValuesLeft → Type 0} (old : ValuesLeft) (tag : TagValue) (r : Result T (DecodeError E))
-    → EachBegins rest g op P → IfErr r (λ (e : DecodeError E). OnMemory e (RanErr rest g op old tag e)) → IfErr r (λ (e : DecodeError E). OnMemory e (Opens tag P old))
+    → EachBegins rest g op P → IfErr r (λ (e : DecodeError E). OnMemory e (ClosureReadsErr rest g op old tag e)) → IfErr r (λ (e : DecodeError E). OnMemory e (Opens tag P old))
 opened old tag (Ok x) each h = tt
 opened old tag (Err (Content x pos)) each h = tt
 opened old tag (Err (Source x)) each h = tt

@@ -52,7 +52,7 @@ letter_ia5 : (c : ℕ) → IsLetter c → IsIa5 c
 letter_ia5 c (inl h) = omega arith
 letter_ia5 c (inr h) = omega arith
 
-base_ia5 : (c : ℕ) → IsBaseOctet c → IsIa5 c
+pub base_ia5 : (c : ℕ) → IsBaseOctet c → IsIa5 c
 base_ia5 c h = elim h [
   | inl l ↦ letter_ia5 c l
   | inr r ↦ elim r [

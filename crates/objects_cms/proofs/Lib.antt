@@ -6,11 +6,11 @@ pub mod SlotLaws
 pub mod Wholes
 pub mod Entries
 pub mod Lists
-pub mod Names
 pub mod Stepping
 mod Joined
 mod Beginning
 mod NoMemory
+pub mod Calls
 pub mod Ones
 pub mod Spelled
 pub mod Whole

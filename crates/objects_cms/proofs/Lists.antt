@@ -13,7 +13,7 @@ use Rattle.objects_cms.specs.bcder_content.InMode.{ReadsFields}
 use Rattle.objects_cms.specs.bcder_content.Grammar.{ExactlyAll, Many}
 use Rattle.objects_cms.specs.bcder_content.Words.{Gathers}
 use Rattle.objects_cms.specs.bcder_content.Kept.{CapturedValue}
-use Rattle.objects_cms.specs.bcder_content.Ran.{Reader}
+use Rattle.objects_cms.specs.bcder_content.ClosureReads.{Reader}
 use Rattle.objects_cms.proofs.of_bcder_content.Inside.{ReadsEach}
 use Rattle.objects_cms.proofs.of_bcder_content.Kept.{exact_capture}
 use Rattle.objects_payload.specs.Manifests.{File, IsFile}

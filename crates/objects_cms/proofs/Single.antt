@@ -1,10 +1,10 @@
 -- One attribute by its identifier and its value, and what it says.
 use Rattle.std.proofs.Common.{◌≡◌, ℕ, Bool, List, Result, Err, refl, sym, ap, ◌∙◌, subst}
 use Rattle.objects_cms.specs.bcder_tree.declared.mode.Mode.{Mode}
-use Rattle.objects_cms.specs.bcder_tree.Tags.{sequence_tag}
+use Rattle.objects_cms.specs.bcder_tree.Tags.{sequence_tag, set_tag}
 use Rattle.objects_cms.specs.bcder_tree.Tree.{Tree, Trees}
-use Rattle.objects_cms.specs.bcder_content.Grammar.{Tagged}
-use Rattle.objects_cms.specs.bcder_content.Words.{ThenBy}
+use Rattle.objects_cms.specs.bcder_content.Grammar.{End, Inside, Tagged, Then}
+use Rattle.objects_cms.specs.bcder_content.Words.{Itself, ThenBy}
 use Rattle.objects_cms.specs.bcder_content.Contents.{ValuesLeft, Whole}
 use Rattle.objects_cms.specs.bcder_content.Exact.{Gives, Lacks, ReadsAs}
 use Rattle.objects_cms.specs.bcder_content.InMode.{ReadsFields}
@@ -72,6 +72,19 @@ kind_is m kinds.MessageDigest t s p = ap kind_of p.means
 kind_is m kinds.SigningTime t s p = ap kind_of p.means
 kind_is m kinds.BinarySigningTime t s p = ap kind_of p.means
 
+-- A set of one value, and nothing behind it: of another grammar, where that value is of one.
+set_of_one : {A B : Type 0} {Q : Tree → A → Type 0} (R : Tree → B → Type 0) {ts : Trees} {x : (A × Unit {0}) × Unit {0}} {y : B}
+    → (p : Then (Inside set_tag (Then Q End)) End ts x) → R p.is.is.first y → Then (Inside set_tag (Then R End)) End ts ((y, tt), tt)
+set_of_one R p r =
+    let set = p.is in
+    record {
+      first = p.first;
+      others = p.others;
+      whole = p.whole;
+      is = record { values = set.values; whole = set.whole; is = record { first = set.is.first; others = set.is.others; whole = set.is.whole; is = r; rest = set.is.rest } };
+      rest = p.rest;
+    }
+
 -- The attribute that said something.
 pub record Found (m : Mode) (t : Tree) (s : Said) : Type 0 where
   pub attribute : Attribute
@@ -82,8 +95,7 @@ pub said_from : {m : Mode} {t : Tree} {s : Said} → IsSaid m t s → Found m t 
 said_from {m} {t} {s} p =
     let body = p.is in
     let oid = body.is.is in
-    let set = body.is.rest.is in
-    let value = set.is in
+    let value = body.is.rest.is.is in
     record {
       attribute = record { kind = oid.x; value = value.first };
       is = record {
@@ -96,17 +108,7 @@ said_from {m} {t} {s} p =
             others = body.is.others;
             whole = body.is.whole;
             is = oid.is;
-            rest = record {
-              first = body.is.rest.first;
-              others = body.is.rest.others;
-              whole = body.is.rest.whole;
-              is = record {
-                values = set.values;
-                whole = set.whole;
-                is = record { first = value.first; others = value.others; whole = value.whole; is = record { same = refl }; rest = value.rest };
-              };
-              rest = body.is.rest.rest;
-            };
+            rest = set_of_one Itself body.is.rest (record { same = refl });
           };
         };
         means = refl;
@@ -121,8 +123,7 @@ said_from {m} {t} {s} p =
 pub said_to : {m : Mode} {t : Tree} {a : Attribute} {s : Said} → IsAttribute t a → Says m a s → IsSaid m t s
 said_to {m} {t} {a} {s} p q =
     let body = p.is in
-    let set = body.is.rest.is in
-    let value = set.is in
+    let value = body.is.rest.is.is in
     let octets : a.kind ≡ p.x.0 = ap (λ (z : Attribute). z.kind) p.means in
     let tree : a.value ≡ value.first = ap (λ (z : Attribute). z.value) p.means ∙ sym value.is.same in
     record {
@@ -135,17 +136,7 @@ said_to {m} {t} {a} {s} p q =
           others = body.is.others;
           whole = body.is.whole;
           is = record { x = p.x.0; is = body.is.is; means = sym octets ∙ q.named };
-          rest = record {
-            first = body.is.rest.first;
-            others = body.is.rest.others;
-            whole = body.is.rest.whole;
-            is = record {
-              values = set.values;
-              whole = set.whole;
-              is = record { first = value.first; others = value.others; whole = value.whole; is = subst (λ (u : Tree). IsValueOf m q.kind u s) tree q.is; rest = value.rest };
-            };
-            rest = body.is.rest.rest;
-          };
+          rest = set_of_one (IsValueOf m q.kind) body.is.rest (subst (λ (u : Tree). IsValueOf m q.kind u s) tree q.is);
         };
       };
       means = refl;

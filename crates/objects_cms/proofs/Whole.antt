@@ -1,7 +1,5 @@
 -- A signed object is a frame whose parts agree; readers of it by octets.
 use Rattle.std.proofs.Common.{◌≡◌, ℕ, Bool, true, false, List, ◌++◌, Result, Ok, Err, ap, ◌∙◌, refl, subst, sym, IsTrue, ◌↔◌}
-use denote.Ref.{MutBor}
-use Rattle.std.specs.Fn.{FnOnceReturnsAtMut}
 use Rattle.std.specs.Prelude.{IfOk, IsErr, IsErrAnd, IsTrue, OnErr, OnOk}
 use Rattle.objects_cms.specs.bcder_tree.declared.mode.Mode.{Mode}
 use Rattle.objects_cms.specs.bcder_source.Errors.{OnContent}
@@ -10,13 +8,14 @@ use Rattle.objects_cms.specs.bcder_source.declared.error.DecodeError.TheVariants
 use Rattle.objects_cms.specs.bcder_content.declared.constructed.Constructed.{Constructed}
 use Rattle.objects_cms.specs.bcder_content.Contents.{Goes, ValuesLeft}
 use Rattle.objects_cms.specs.bcder_content.Exact.{Lacks}
-use Rattle.objects_cms.specs.bcder_content.Here.{here}
-use Rattle.objects_cms.specs.bcder_content.Ran.{Decoded, DecodedCases, RanIn, Reader, failed_in, fresh, refused_in}
+use Rattle.objects_cms.specs.bcder_content.Texts.{InFront}
+use Rattle.objects_cms.specs.bcder_content.ClosureReads.{Decoded, DecodedCases, Reader, failed_in, fresh, refused_in}
 use Rattle.objects_cms.proofs.of_bcder_content.Taking.{on_content, weaker}
 use Rattle.certs_cert.specs.certs_x509.Took.{TookOctets}
 use Rattle.objects_cms.specs.objects_payload.ObjectText.{Object, ObjectFields, SpellsContentInfo, SpellsObject, mode, object_of}
 use Rattle.objects_cms.specs.Frame.{IsFrame, Parts, object_fields, signed_fields}
 use Rattle.objects_cms.specs.Decoded.{Agrees, DecodesObject, LacksOctets, ReadsOctets}
+use Rattle.objects_cms.proofs.Calls.{EachCall, call_in}
 use Rattle.objects_cms.proofs.Ones.{frame_one}
 use Rattle.objects_cms.proofs.Spelled.{frame_tree}
 
@@ -76,49 +75,44 @@ pub object_agreed : {E : Type 0} {now mid : ValuesLeft} {p : Parts} (new : Value
 object_agreed {now = now} new (Ok o) g a same n = subst (λ (v : ValuesLeft). TookOctets (λ (z : Object). z) SpellsObject now o v) (sym same) (object_gives g a.0 a.1)
 object_agreed new (Err e) g a same n = on_content e (object_disagrees g n)
 
--- Each call of the closure reads octets exactly.
-pub record EachOctets {F S T B E : Type 0} (rest : S → List ℕ) (g : Reader F (Constructed S) T E) (op : F) (f : T → B)
-    (P : Mode → List ℕ → B → Type 0) : Type 0 where
-  pub each : (p q : MutBor (Constructed S)) (r : Result T (DecodeError E)) → g.post op (p, tt) (r, (q, tt)) → ReadsOctets f P (here rest p.now) r (here rest q.now)
+-- Each call of the closure reads octets of P exactly.
+abbrev pub EachOctets : {F S A E : Type 0} → (S → List ℕ) → Reader F (Constructed S) A E → F → (Mode → List ℕ → A → Type 0) → Type 0
+EachOctets {A = A} {E} rest g op P = EachCall rest g op (λ (v : ValuesLeft) (r : Result A (DecodeError E)) (w : ValuesLeft). ReadsOctets (λ (x : A). x) P v r w)
 
-octets_met : {F S T B E : Type 0} {rest : S → List ℕ} {g : Reader F (Constructed S) T E} {op : F} {f : T → B} {P : Mode → List ℕ → B → Type 0}
-    → EachOctets rest g op f P → (given stop : Constructed S) (r : Result T (DecodeError E)) → FnOnceReturnsAtMut g op given r stop
-    → ReadsOctets f P (here rest given) r (here rest stop)
-octets_met {S = S} {rest = rest} {f = f} {P} each given stop r met =
-    subst (λ (v : Constructed S). ReadsOctets f P (here rest v) r (here rest stop)) met.shows
-    (subst (λ (w : Constructed S). ReadsOctets f P (here rest met.shown.now) r (here rest w)) met.leaves
-    (each.each met.shown met.left r met.met))
-
-pub octets_fresh : {F S T B E : Type 0} {m : Mode} {rest : S → List ℕ} {g : Reader F (Constructed S) T E} {op : F} {f : T → B} {P : Mode → List ℕ → B → Type 0}
-    {o : List ℕ} {r : Result T (DecodeError E)} {end : ValuesLeft} → EachOctets rest g op f P → RanIn rest g op (fresh m o) r end
-    → ReadsOctets f P (fresh m o) r end
-octets_fresh {m = m} {rest} {f = f} {P} {o} {r} {end} each on =
-    subst (λ (v : ValuesLeft). ReadsOctets f P (fresh m o) r v) on.ends
-    (subst (λ (v : ValuesLeft). ReadsOctets f P v r (here rest on.left)) on.starts
-    (octets_met each on.given on.left r on.met))
+-- What stands in front of the octets, or that nothing does.
+abbrev pub DecodesFront : {A E : Type 0} → (List ℕ → A → Type 0) → List ℕ → Result A (DecodeError E) → Type 0
+DecodesFront P octets (Ok x) = InFront P octets x
+DecodesFront {A} P octets (Err e) = OnContent e ((x : A) → InFront P octets x → ⊥)
 
 -- Octets in front of a source are next in it.
-pub front_goes : {m : Mode} {o text behind : List ℕ} → o ≡ text ++ behind → Goes (fresh m o) text (fresh m behind)
+front_goes : {m : Mode} {o text behind : List ℕ} → o ≡ text ++ behind → Goes (fresh m o) text (fresh m behind)
 front_goes e = record { moved = record { rest = e; limit = refl }; mode = refl; end = refl; before = refl; behind = refl }
 
-decoded_cases : {F S E : Type 0} {rest : S → List ℕ} {g : Reader F (Constructed S) Object E} {op : F} (strict : Bool) (o : List ℕ)
-    (r : Result Object (DecodeError E)) → EachOctets rest g op (λ (z : Object). z) SpellsObject → DecodedCases rest g op (fresh (mode strict) o) r
-    → DecodesObject strict o r
-decoded_cases strict o (Ok x) each h =
-    let k = octets_fresh each h.1 in
+front_cases : {F S A E : Type 0} {rest : S → List ℕ} {g : Reader F (Constructed S) A E} {op : F} (P : Mode → List ℕ → A → Type 0) (m : Mode) (o : List ℕ)
+    (r : Result A (DecodeError E)) → EachOctets rest g op P → DecodedCases rest g op (fresh m o) r → DecodesFront (P m) o r
+front_cases P m o (Ok x) each h =
+    let k = call_in each h.1 in
     record { text = k.text; rest = h.0.rest; whole = k.goes.moved.rest; is = k.is }
-decoded_cases strict o (Err (Content x pos)) each h = λ y p.
+front_cases P m o (Err (Content x pos)) each h = λ y p.
     elim h [
-      | refused_in end on ↦ (octets_fresh each on).none p.text y (fresh (mode strict) p.rest) (front_goes p.whole) p.is
-      | failed_in end v on failed ↦ let k = octets_fresh each on in let e : true ≡ false = sym failed ∙ k.goes.behind in absurd cc
+      | refused_in end on ↦ (call_in each on).none p.text y (fresh m p.rest) (front_goes p.whole) p.is
+      | failed_in end v on failed ↦ let k = call_in each on in let e : true ≡ false = sym failed ∙ k.goes.behind in absurd cc
     ]
-decoded_cases strict o (Err (Source x)) each h = tt
-decoded_cases strict o (Err Memory) each h = tt
+front_cases P m o (Err (Source x)) each h = tt
+front_cases P m o (Err Memory) each h = tt
 
--- Decoding with a closure that reads an object exactly, in the mode that was asked for.
-pub decodes_object : {F S E : Type 0} {m : Mode} {rest : S → List ℕ} {g : Reader F (Constructed S) Object E} {op : F} {o : List ℕ}
-    {r : Result Object (DecodeError E)} (strict : Bool) → m ≡ mode strict → EachOctets rest g op (λ (z : Object). z) SpellsObject
-    → Decoded rest g op (fresh m o) r → DecodesObject strict o r
-decodes_object {rest = rest} {g} {op} {o} {r} strict e each h =
+-- Decoding with a closure that reads octets of P exactly, in the mode that was asked for.
+pub decodes_front : {F S A E : Type 0} {m : Mode} {rest : S → List ℕ} {g : Reader F (Constructed S) A E} {op : F} {o : List ℕ} {r : Result A (DecodeError E)}
+    (P : Mode → List ℕ → A → Type 0) (strict : Bool) → m ≡ mode strict → EachOctets rest g op P → Decoded rest g op (fresh m o) r → DecodesFront (P (mode strict)) o r
+decodes_front {rest = rest} {g} {op} {o} {r} P strict e each h =
     let d = subst (λ (z : Mode). Decoded rest g op (fresh z o) r) e h in
-    decoded_cases strict o r each d.cases
+    front_cases P (mode strict) o r each d.cases
+
+pub decodes_object : {F S E : Type 0} {m : Mode} {rest : S → List ℕ} {g : Reader F (Constructed S) Object E} {op : F} {o : List ℕ}
+    {r : Result Object (DecodeError E)} (strict : Bool) → m ≡ mode strict → EachOctets rest g op SpellsObject
+    → Decoded rest g op (fresh m o) r → DecodesObject strict o r
+decodes_object {o = o} {r} strict e each h = as_object r (decodes_front SpellsObject strict e each h)
+  where
+    as_object : {E : Type 0} (r : Result Object (DecodeError E)) → DecodesFront (SpellsObject (mode strict)) o r → DecodesObject strict o r
+    as_object (Ok x) d = d
+    as_object (Err x) d = d

@@ -1,7 +1,6 @@
 -- Values that are all of a content, and all of the octets that are kept of it.
 use Rattle.std.proofs.Common.{◌≡◌, ℕ, true, false, List, [], ◌++◌, length, Option, None, Some, Result, Ok, Err, refl, sym, ap, ◌∙◌, subst, append-nil}
 use Rattle.std.specs.Result.{IsErr, IsErrAnd}
-use denote.Ref.{MutBor}
 use Rattle.objects_cms.specs.bcder_tree.declared.mode.Mode.{Mode}
 use Rattle.objects_cms.specs.bcder_tree.Tree.{SpellsAll, Trees}
 use Rattle.objects_cms.specs.bcder_source.Errors.{OnContent}
@@ -12,15 +11,15 @@ use Rattle.objects_cms.specs.bcder_content.declared.constructed.Constructed.{Con
 use Rattle.objects_cms.specs.bcder_content.Captures.{CapturesAll}
 use Rattle.objects_cms.specs.bcder_content.Contents.{EndsHere, Ended, Goes, ValuesLeft, Whole, octets}
 use Rattle.objects_cms.specs.bcder_content.Exact.{GivesAll, LacksAll}
-use Rattle.objects_cms.specs.bcder_content.Here.{here}
 use Rattle.objects_cms.specs.bcder_content.Kept.{CapturedValue}
-use Rattle.objects_cms.specs.bcder_content.Ran.{Decoded, DecodedCases, RanIn, Reader, failed_in, fresh, refused_in}
+use Rattle.objects_cms.specs.bcder_content.ClosureReads.{Decoded, DecodedCases, Reader, failed_in, fresh, refused_in}
 use Rattle.objects_cms.specs.bcder_content.Skips.{NotWhole}
 use Rattle.objects_cms.specs.bcder_content.Texts.{InOrder}
 use Rattle.objects_cms.proofs.of_bcder_content.Took.{one_whole}
 use Rattle.objects_payload.specs.SignedAttributes.{AreAttributes, AttributesValue}
 use Rattle.objects_cms.specs.declared.attributes.attrs.Attributes.{Attributes}
 use Rattle.objects_cms.specs.Kept.{AreKept, AreWhole, DecodesAll, IsWholly}
+use Rattle.objects_cms.proofs.Calls.{EachCall, call_in}
 
 -- A refusal, which `?` passes on.
 pub whole_stop : {E : Type 0} (v new : ValuesLeft) (r : Result Attributes (DecodeError E)) (e : DecodeError E) → IsErr r × IsErrAnd r (λ x. x ≡ e)
@@ -33,11 +32,11 @@ pub whole_ends : {v mid new : ValuesLeft} {x : AttributesValue} → GivesAll (Ar
 whole_ends {v} {x = x} g e ended = subst (λ (w : ValuesLeft). IsWholly v x w) (sym e) (record { trees = g.trees; took = g.took; ended = ended; is = g.is })
 
 -- All octets of a source spell values where these are all of it.
-no_limit : (n : ℕ) (l : Option ℕ) → None ≡ more_limit n l → l ≡ None
+pub no_limit : (n : ℕ) (l : Option ℕ) → None ≡ more_limit n l → l ≡ None
 no_limit n None e = refl
 no_limit n (Some k) e = absurd cc
 
-ends_with : {v : ValuesLeft} → Ended v → v.end ≡ (fresh v.mode []).end → v.limit ≡ None → v.rest ≡ []
+pub ends_with : {v : ValuesLeft} → Ended v → v.end ≡ (fresh v.mode []).end → v.limit ≡ None → v.rest ≡ []
 ends_with {v} e end limit =
     let here = subst (λ z. EndsHere z (octets v)) end e.ends in
     sym (ap (λ (l : Option ℕ). limited l v.rest) limit) ∙ here
@@ -61,26 +60,18 @@ spelled_whole {m} {o} {ts} s = record {
 }
 
 -- Each call of the closure reads attributes that are all of its content.
-pub record EachWhole {F S E : Type 0} (rest : S → List ℕ) (g : Reader F (Constructed S) Attributes E) (op : F) : Type 0 where
-  pub each : (p q : MutBor (Constructed S)) (r : Result Attributes (DecodeError E)) → g.post op (p, tt) (r, (q, tt)) → AreWhole (here rest p.now) r (here rest q.now)
-
-in_fresh : {F S E : Type 0} {rest : S → List ℕ} {g : Reader F (Constructed S) Attributes E} {op : F} {v end : ValuesLeft} {r : Result Attributes (DecodeError E)}
-    → EachWhole rest g op → RanIn rest g op v r end → AreWhole v r end
-in_fresh {S = S} {rest = rest} {v = v} {r = r} each on =
-    let at = each.each on.met.shown on.met.left r on.met.met in
-    let given = subst (λ (w : Constructed S). AreWhole (here rest w) r (here rest on.met.left.now)) on.met.shows at in
-    let stop = subst (λ (w : Constructed S). AreWhole (here rest on.given) r (here rest w)) on.met.leaves given in
-    subst (λ (w : ValuesLeft). AreWhole v r w) on.ends (subst (λ (w : ValuesLeft). AreWhole w r (here rest on.left)) on.starts stop)
+abbrev pub EachWhole : {F S E : Type 0} → (S → List ℕ) → Reader F (Constructed S) Attributes E → F → Type 0
+EachWhole {E = E} rest g op = EachCall rest g op (λ (v : ValuesLeft) (r : Result Attributes (DecodeError E)) (w : ValuesLeft). AreWhole v r w)
 
 decoded_cases : {F S E : Type 0} {rest : S → List ℕ} {g : Reader F (Constructed S) Attributes E} {op : F} (m : Mode) (o : List ℕ) (r : Result Attributes (DecodeError E))
     → EachWhole rest g op → DecodedCases rest g op (fresh m o) r → DecodesAll m o r
 decoded_cases m o (Ok x) each h =
-    let w = in_fresh each h.1 in
+    let w = call_in each h.1 in
     record { trees = w.trees; is = w.is; spelled = whole_spelled (record { behind = h.0; took = w.took; ended = w.ended }) }
 decoded_cases m o (Err (Content x pos)) each h = λ y p.
     elim h [
-      | refused_in end on ↦ (in_fresh each on).none p.trees y p.is (spelled_whole p.spelled)
-      | failed_in end z on failed ↦ let w = in_fresh each on in let e : true ≡ false = sym failed ∙ w.took.goes.behind in absurd cc
+      | refused_in end on ↦ (call_in each on).none p.trees y p.is (spelled_whole p.spelled)
+      | failed_in end z on failed ↦ let w = call_in each on in let e : true ≡ false = sym failed ∙ w.took.goes.behind in absurd cc
     ]
 decoded_cases m o (Err (Source x)) each h = tt
 decoded_cases m o (Err Memory) each h = tt

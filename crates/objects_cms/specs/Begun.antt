@@ -5,7 +5,7 @@ use Rattle.objects_cms.specs.bcder_tree.Tags.{TagValue, context, sequence_tag}
 use Rattle.objects_cms.specs.bcder_content.declared.ending.Span.{Span}
 use Rattle.objects_cms.specs.bcder_content.Contents.{ValuesLeft}
 use Rattle.objects_cms.specs.bcder_content.Exact.{Gives}
-use Rattle.objects_cms.specs.bcder_content.Ran.{Enters}
+use Rattle.objects_cms.specs.bcder_content.ClosureReads.{Enters}
 use Rattle.objects_cms.specs.objects_payload.Identifiers as id
 use Rattle.objects_cms.specs.objects_payload.ObjectText.{AreDigestAlgorithms, IsThree}
 

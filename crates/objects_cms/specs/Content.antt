@@ -10,7 +10,12 @@ use Rattle.objects_cms.specs.Signer.{SignerValue, signer_fields}
 
 -- The object of a content of that type, a certificate and a signer.
 abbrev pub object_with : List ℕ → List ℕ → CertValue → SignerValue → Object
-object_with content_type content c s = record { content_type = content_type; content = content; cert = c; signer = signer_of (signer_fields s) }
+object_with content_type content c s = record {
+  content_type = content_type;
+  content = content;
+  cert = c;
+  signer = signer_of (signer_fields s);
+}
 
 -- The digest that is signed is the content's (RFC 5652 5.4, 11.2).
 abbrev pub HasDigest : Digests → Object → Type 0
@@ -44,7 +49,8 @@ FailsContent d v o error.Uncovered = ⊥
 FailsContent d v o error.Refused = ⊥
 
 -- The object is sound, or the error tells why it isn't.
-abbrev pub VerifiesContent : Digests → Verdicts → Object → Result (Unit {0}) VerificationError → Type 0
+abbrev pub VerifiesContent : Digests → Verdicts → Object → Result (Unit {0}) VerificationError
+    → Type 0
 VerifiesContent d v o (Ok x) = Sound d v o
 VerifiesContent d v o (Err e) = FailsContent d v o e
 

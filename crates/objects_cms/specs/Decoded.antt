@@ -9,11 +9,14 @@ use Rattle.objects_cms.specs.objects_payload.ObjectText.{Object, ObjectText}
 use Rattle.objects_cms.specs.Frame.{Parts}
 
 -- No octets of P are next in the content.
-pub record LacksOctets {A : Type 0} (P : Mode → List ℕ → A → Type 0) (old : ValuesLeft) : Type 0 where
-  pub none : (text : List ℕ) (x : A) (behind : ValuesLeft) → Goes old text behind → P old.mode text x → ⊥
+pub record LacksOctets {A : Type 0} (P : Mode → List ℕ → A → Type 0) (old : ValuesLeft)
+    : Type 0 where
+  pub none : (text : List ℕ) (x : A) (behind : ValuesLeft) → Goes old text behind
+      → P old.mode text x → ⊥
 
 -- A reader of octets: those that it read are of P, and where it refuses none of P are next.
-abbrev pub ReadsOctets : {A B E : Type 0} → (A → B) → (Mode → List ℕ → B → Type 0) → ValuesLeft → Result A (DecodeError E) → ValuesLeft → Type 0
+abbrev pub ReadsOctets : {A B E : Type 0} → (A → B) → (Mode → List ℕ → B → Type 0) → ValuesLeft
+    → Result A (DecodeError E) → ValuesLeft → Type 0
 ReadsOctets f P old (Ok x) new = TookOctets f P old x new
 ReadsOctets f P old (Err e) new = OnContent e (LacksOctets P old)
 

@@ -41,11 +41,13 @@ pub record IsWholly (old : ValuesLeft) (x : AttributesValue) (new : ValuesLeft) 
   pub is : AreAttributes old.mode trees x
 
 -- A reader of such a content, its end included.
-abbrev pub AreWhole : {E : Type 0} → ValuesLeft → Result Attributes (DecodeError E) → ValuesLeft → Type 0
+abbrev pub AreWhole : {E : Type 0} → ValuesLeft → Result Attributes (DecodeError E) → ValuesLeft
+    → Type 0
 AreWhole old (Ok a) new = IsWholly old (attributes_of a) new
 AreWhole old (Err e) new = OnContent e (LacksAll (AreAttributes old.mode) old)
 
 -- A reader of all octets.
 abbrev pub DecodesAll : {E : Type 0} → Mode → List ℕ → Result Attributes (DecodeError E) → Type 0
 DecodesAll m octets (Ok a) = InOrder m (AreAttributes m) octets (attributes_of a)
-DecodesAll m octets (Err e) = OnContent e ((x : AttributesValue) → InOrder m (AreAttributes m) octets x → ⊥)
+DecodesAll m octets (Err e) =
+    OnContent e ((x : AttributesValue) → InOrder m (AreAttributes m) octets x → ⊥)

@@ -5,13 +5,13 @@ pub mod Kept
 pub mod Files
 pub mod Listing
 pub mod Held
-pub mod Steps
 pub mod ManifestFields
 pub mod Signer
 pub mod Frame
 pub mod Begun
 pub mod Decoded
 pub mod Content
+pub mod Versions
 -- What stands below, for the crates above.
 pub use Rattle.objects_payload.specs.bcder_content as bcder_content
 pub use Rattle.objects_payload.specs.bcder as bcder

@@ -6,15 +6,10 @@ use Rattle.objects_cms.specs.bcder_tree.Tags.{sequence_tag}
 use Rattle.objects_cms.specs.bcder_tree.Tree.{Trees}
 use Rattle.objects_cms.specs.bcder_content.Grammar.{End, Inside, Many, Then}
 use Rattle.certs_key.specs.certs_basics.Basics.{IsSerial}
-use Rattle.objects_payload.specs.certs_extension.CertText.{IsVersion as IsInteger}
 use Rattle.objects_payload.specs.Contents.{VersionZero}
 use Rattle.objects_payload.specs.Identifiers as id
 use Rattle.objects_payload.specs.Manifests.{Fields, File, IsFile, IsMomentString}
 use Rattle.objects_cms.specs.Said.{alone}
-
--- INTEGER (0)
-abbrev pub IsNumber : Mode → Trees → Unit {0} × Unit {0} → Type 0
-IsNumber m = Then (IsInteger 0) End
 
 -- The fields, in every mode.
 abbrev pub AreManifestFields : Mode → Trees → Fields → Type 0

@@ -53,7 +53,8 @@ abbrev pub SaidFields : Type 0
 SaidFields = Kind × ((Said × Unit {0}) × Unit {0})
 
 abbrev pub AreSaid : Mode → Trees → SaidFields → Type 0
-AreSaid m = ThenBy (Means (OctetsOf oid_tag IsOid) IsKindOid) (λ kind. Then (Inside set_tag (AreOneValue m kind)) End)
+AreSaid m = ThenBy (Means (OctetsOf oid_tag IsOid) IsKindOid)
+    (λ kind. Then (Inside set_tag (AreOneValue m kind)) End)
 
 abbrev pub said_fields : Said → SaidFields
 said_fields s = (kind_of s, (alone s, tt))

@@ -48,4 +48,6 @@ Adds said old new = (all : List Said) → AreSlots all old → AreSlots (all ++ 
 
 -- No list in which the attribute stands after one of these slots has any slots.
 abbrev pub Refuses : Said → Slots → Type 0
-Refuses said old = (all behind : List Said) (s : Slots) → AreSlots all old → AreSlots (all ++ (said ∷ behind)) s → ⊥
+Refuses said old =
+    (all behind : List Said) (s : Slots) → AreSlots all old → AreSlots (all ++ (said ∷ behind)) s
+    → ⊥

@@ -11,7 +11,6 @@ pub mod content;
 pub mod file;
 pub mod hash;
 pub mod list;
-mod pieces;
 
 pub use content::ManifestContent;
 pub use file::FileAndHash;

@@ -18,9 +18,6 @@ pub stands_first : (nodes : List Node) (sid : List ℕ) (first : ℕ) → IsFirs
 stands_first nodes sid first f = record { c = f.0.node; at = f.0.at; front = front_first nodes sid first f }
 
 module _ (nodes : List Node) (sid : List ℕ) (path : List ℕ) (place : ℕ) (s : Stands nodes sid path place) where
-  pub stands_inside : place < length nodes
-  stands_inside = at_inside nodes place s.c s.at
-
   module _ (whole : List ℕ) (is : whole ≡ path ++ place ∷ []) where
     front_here : Front nodes sid whole s.c
     front_here = subst (λ (ps : List ℕ). Front nodes sid ps s.c) (sym is) s.front

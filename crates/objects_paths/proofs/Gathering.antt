@@ -1,7 +1,7 @@
 -- What is kept of paths, one after another.
 use Rattle.std.proofs.Common.{◌≡◌, ◌≢◌, ℕ, zero, suc, ◌-◌, ◌<◌, ◌||◌, Bool, true, false, List, [], ◌∷◌, ◌++◌, length, get_or, replicate, take, drop, Option, Some, None, MatchOption, slice_get, All, Any, refl, sym, ap, subst, ◌∙◌, arith}
 use Rattle.std.proofs.lemmas.Bool.{both_ways}
-use Rattle.std.proofs.lemmas.List.Elements.{All-cons, All-head, All-nil, All-push, All-tail}
+use Rattle.std.proofs.lemmas.List.Elements.{All-cons, All-nil, All-push, All-tail}
 use Rattle.std.proofs.lemmas.List.Folds.{list_any-append, Any-from_list_any, list_any-from_Any}
 use Rattle.std.proofs.lemmas.Option.{slice_get-get_or}
 use Rattle.std.proofs.Math.Seq.{take-append_seam}
@@ -9,7 +9,7 @@ use Rattle.objects_paths.specs.Kept.{Kept}
 use Rattle.objects_paths.specs.Nodes.{Node}
 use Rattle.objects_paths.specs.Paths.{Follows, IsOn, IsPath}
 use Rattle.objects_paths.specs.Places.{has, some_has}
-use Rattle.objects_paths.specs.Runs.{AreMeasured, IsMeasured, Tells, known_at, length_at, on_at, onward, walk}
+use Rattle.objects_paths.specs.Runs.{IsMeasured, known_at, on_at, onward, walk}
 use Rattle.objects_paths.specs.declared.lengths.Length.{Length}
 use Rattle.objects_paths.specs.declared.lengths.Length.TheVariants.{Unknown}
 use Rattle.objects_paths.specs.declared.table.Found.{Found}
@@ -41,29 +41,6 @@ unknown_at : (n place : ℕ) → get_or (replicate n Unknown) place Unknown ≡ 
 unknown_at zero place = refl
 unknown_at (suc n) zero = refl
 unknown_at (suc n) (suc place) = unknown_at n place
-
-pub measured_none : (steps : List Found) (n : ℕ) (lengths : List Length) → length lengths ≡ length steps → lengths ≡ replicate n Unknown → AreMeasured steps lengths
-measured_none steps n lengths size e =
-    record {
-      size = size;
-      tells = λ p. subst (λ (x : Length). Tells steps p x) (sym (none p)) tt;
-      closed = λ p q k o. absurd (both_ways (known_at lengths p) (ap (λ (x : Length). known_of x) (none p)) k);
-    }
-  where
-    known_of : Length → Bool
-    known_of x = known_at (x ∷ []) 0
-
-    none : (p : ℕ) → length_at lengths p ≡ Unknown
-    none p = ap (λ (ls : List Length). length_at ls p) e ∙ unknown_at n p
-
-pub kept_none : (steps : List Found) (n : ℕ) (lengths : List Length) → length lengths ≡ length steps → lengths ≡ replicate n Unknown → Kept steps lengths []
-kept_none steps n lengths size e =
-    record {
-      size = size;
-      some = All-nil (λ (path : List ℕ). path ≢ []);
-      inside = All-nil (λ (path : List ℕ). All (λ (place : ℕ). place < length steps) path);
-      on = λ p. sym (ap (λ (ls : List Length). known_at ls p) e ∙ ap (λ (x : Length). known_at (x ∷ []) 0) (unknown_at n p));
-    }
 
 -- One path more.
 pub kept_next : (steps : List Found) (old new : List Length) (paths : List (List ℕ)) (first n : ℕ) → Kept steps old paths → (m : IsMeasured steps old new first n) → walk steps n first ≢ [] → All (λ place. place < length steps) (walk steps n first) → Kept steps new (paths ++ walk steps n first ∷ [])
@@ -119,9 +96,6 @@ module _ (steps : List Found) (lengths : List Length) (paths : List (List ℕ)) 
 pub walk_more : (steps : List Found) (n place : ℕ) → n ≢ 0 → walk steps n place ≡ place ∷ walk steps (n - 1) (onward (on_at steps place) place)
 walk_more steps zero place ne = absurd (ne refl)
 walk_more steps (suc n) place ne = let e : suc n - 1 ≡ n = omega arith in ap (λ (k : ℕ). place ∷ walk steps k (onward (on_at steps place) place)) (sym e)
-
-pub walk_head : (steps : List Found) (n place : ℕ) → n ≢ 0 → All (λ p. p < length steps) (walk steps n place) → place < length steps
-walk_head steps n place ne all = All-head (λ (p : ℕ). p < length steps) place (walk steps (n - 1) (onward (on_at steps place) place)) (subst (λ (ps : List ℕ). All (λ (p : ℕ). p < length steps) ps) (walk_more steps n place ne) all)
 
 pub walk_tail : (steps : List Found) (n place : ℕ) → n ≢ 0 → All (λ p. p < length steps) (walk steps n place) → All (λ p. p < length steps) (walk steps (n - 1) (onward (on_at steps place) place))
 walk_tail steps n place ne all = All-tail (λ (p : ℕ). p < length steps) place (walk steps (n - 1) (onward (on_at steps place) place)) (subst (λ (ps : List ℕ). All (λ (p : ℕ). p < length steps) ps) (walk_more steps n place ne) all)

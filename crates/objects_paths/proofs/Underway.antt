@@ -1,8 +1,7 @@
 -- Lengths while a path is followed, and when its places are measured.
-use Rattle.std.proofs.Common.{◌≡◌, ◌≢◌, ◌⊎◌, ℕ, ◌+◌, ◌-◌, ◌<◌, ◌||◌, Bool, true, false, cond, nat_eq, List, [], ◌∷◌, ◌++◌, length, get_or, set, length-append, sum_by, inl, inr, refl, sym, ap, subst, ◌∙◌, arith}
+use Rattle.std.proofs.Common.{◌≡◌, ◌≢◌, ◌⊎◌, ℕ, ◌+◌, ◌-◌, ◌<◌, ◌||◌, Bool, true, false, nat_eq, List, [], ◌∷◌, ◌++◌, length, get_or, set, length-append, inl, inr, refl, sym, ap, subst, ◌∙◌, arith}
 use Rattle.std.proofs.lemmas.Bool.{both_ways, cases_eq, eqb-false, false_from_ne_true, or_parts}
 use Rattle.std.proofs.lemmas.List.{get_or-set_other, get_or-set_same, get_or_append_left, length-set}
-use Rattle.std.proofs.lemmas.List.Sums.{sum_by-set}
 use Rattle.std.proofs.Math.Seq.{get_or-append_seam}
 use Rattle.objects_paths.specs.Runs.{AreFresh, AreMeasured, AreSet, AreUnderway, IsMeasured, RunFrom, Tells, is_known, known_at, length_at, on_at}
 use Rattle.objects_paths.specs.Places.{has}
@@ -37,9 +36,6 @@ last_place places place =
     let size = length-append places (place ∷ []) in
     let one : length (place ∷ []) ≡ 1 = refl in
     (omega arith, get_or-append_seam places place [] 0)
-
-pub underway_none : (lengths : List Length) → AreUnderway lengths lengths []
-underway_none lengths = record { size = refl; marked = λ p h. absurd cc; others = λ p h. refl }
 
 pub underway_next : (old now : List Length) (places : List ℕ) (place : ℕ) → AreUnderway old now places → place < length now → has places place ≡ false → AreUnderway old (set now place (Underway (length places))) (places ++ place ∷ [])
 underway_next old now places place u l new = record { size = length-set now place (Underway (length places)) ∙ u.size; marked = marked; others = others }
@@ -94,17 +90,6 @@ module _ (steps : List Found) (old now : List Length) (places : List ℕ) (m : A
       go false h =
           let none : Tells steps place (Underway j) = subst (λ (x : Length). Tells steps place x) (sym (u.others place h) ∙ e) (m.tells place) in
           absurd none
-
--- One fewer is unknown.
-pub fewer_unknown : (now : List Length) (place k : ℕ) → place < length now → length_at now place ≡ Unknown → sum_by (λ x. cond (is_known x) 0 1) (set now place (Underway k)) < sum_by (λ x. cond (is_known x) 0 1) now
-fewer_unknown now place k l e =
-    let sums = sum_by-set (λ (x : Length). let n : ℕ = cond (is_known x) 0 1 in n) now place (Underway k) Unknown l in
-    let before : ◌≡◌ {A = ℕ} (cond (is_known (length_at now place)) 0 1) 1 = ap (λ (x : Length). let n : ℕ = cond (is_known x) 0 1 in n) e in
-    omega (arith, sums, before)
-
--- The places are measured one by one.
-pub set_none : (lengths : List Length) (before behind : ℕ) → AreSet lengths lengths [] before behind
-set_none lengths before behind = record { size = refl; each = λ p h. absurd cc; others = λ p h. refl }
 
 pub set_more : (old now : List Length) (places : List ℕ) (before behind place n : ℕ) → n ≡ behind + (before - length places) → AreSet old now places before behind → place < length now → AreSet old (set now place (Of n)) (places ++ place ∷ []) before behind
 set_more old now places before behind place n e s l = record { size = length-set now place (Of n) ∙ s.size; each = each; others = others }

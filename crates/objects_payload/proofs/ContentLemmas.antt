@@ -60,8 +60,9 @@ pub fields_all : (m : Mode) (ts : Trees) (f : Fields) → AreRoaFields m ts f �
 fields_all m ts f p = cases_all m ts f.0 f.1 p.cases
 
 -- In DER these are the contents of route origin attestations.
-rest_in_der : (ts : Trees) (r : Behind) → Rest Der ts r → RoaRest ts r
-rest_in_der ts r p = record {
+rest_as : {F G : Trees → List RoaAddress × List RoaAddress → Type 0} → ((ts : Trees) (x : List RoaAddress × List RoaAddress) → F ts x → G ts x)
+    → (ts : Trees) (r : Behind) → Then IsAsId (Then (Inside sequence_tag F) End) ts r → Then IsAsId (Then (Inside sequence_tag G) End) ts r
+rest_as means ts r p = record {
   first = p.first;
   others = p.others;
   whole = p.whole;
@@ -70,38 +71,20 @@ rest_in_der ts r p = record {
     first = p.rest.first;
     others = p.rest.others;
     whole = p.rest.whole;
-    is = record { values = p.rest.is.values; whole = p.rest.is.whole; is = families_in_der p.rest.is.values r.1.0 p.rest.is.is };
+    is = record { values = p.rest.is.values; whole = p.rest.is.whole; is = means p.rest.is.values r.1.0 p.rest.is.is };
     rest = p.rest.rest;
   };
 }
 
-rest_of_der : (ts : Trees) (r : Behind) → RoaRest ts r → Rest Der ts r
-rest_of_der ts r p = record {
-  first = p.first;
-  others = p.others;
-  whole = p.whole;
-  is = p.is;
-  rest = record {
-    first = p.rest.first;
-    others = p.rest.others;
-    whole = p.rest.whole;
-    is = record { values = p.rest.is.values; whole = p.rest.is.whole; is = families_of_der p.rest.is.values r.1.0 p.rest.is.is };
-    rest = p.rest.rest;
-  };
-}
-
-cases_in_der : (ts : Trees) (o : Option (Unit {0} × Unit {0})) (r : Behind) → OptCases (context 0) (IsVersion 0) (Rest Der) ts o r → OptCases (context 0) (IsVersion 0) RoaRest ts o r
-cases_in_der ts None r p = (p.0, rest_in_der ts r p.1)
-cases_in_der ts (Some x) r p = record { first = p.first; others = p.others; whole = p.whole; is = p.is; rest = rest_in_der p.others r p.rest }
-
-cases_of_der : (ts : Trees) (o : Option (Unit {0} × Unit {0})) (r : Behind) → OptCases (context 0) (IsVersion 0) RoaRest ts o r → OptCases (context 0) (IsVersion 0) (Rest Der) ts o r
-cases_of_der ts None r p = (p.0, rest_of_der ts r p.1)
-cases_of_der ts (Some x) r p = record { first = p.first; others = p.others; whole = p.whole; is = p.is; rest = rest_of_der p.others r p.rest }
+cases_as : {R S : Trees → Behind → Type 0} → ((ts : Trees) (r : Behind) → R ts r → S ts r)
+    → (ts : Trees) (o : Option (Unit {0} × Unit {0})) (r : Behind) → OptCases (context 0) (IsVersion 0) R ts o r → OptCases (context 0) (IsVersion 0) S ts o r
+cases_as means ts None r p = (p.0, means ts r p.1)
+cases_as means ts (Some x) r p = record { first = p.first; others = p.others; whole = p.whole; is = p.is; rest = means p.others r p.rest }
 
 pub roa_in_der : (t : Tree) (r : Roa) → IsRoaIn Der t r → IsRoa t r
 roa_in_der t r p = record {
   x = p.is.fields;
-  is = record { values = p.values; whole = p.whole; is = record { cases = cases_in_der p.values p.is.fields.0 p.is.fields.1 p.is.are.cases } };
+  is = record { values = p.values; whole = p.whole; is = record { cases = cases_as {R = Rest Der} {S = RoaRest} (rest_as families_in_der) p.values p.is.fields.0 p.is.fields.1 p.is.are.cases } };
   means = p.is.means;
 }
 
@@ -109,7 +92,7 @@ pub roa_of_der : (t : Tree) (r : Roa) → IsRoa t r → IsRoaIn Der t r
 roa_of_der t r p = record {
   values = p.is.values;
   whole = p.is.whole;
-  is = record { fields = p.x; are = record { cases = cases_of_der p.is.values p.x.0 p.x.1 p.is.is.cases }; means = p.means };
+  is = record { fields = p.x; are = record { cases = cases_as {R = RoaRest} {S = Rest Der} (rest_as families_of_der) p.is.values p.x.0 p.x.1 p.is.is.cases }; means = p.means };
 }
 
 -- Octets that are decoded in DER are read as such a content.

@@ -6,7 +6,7 @@ use Rattle.objects_payload.specs.bcder_tree.declared.mode.Mode.{Mode}
 use Rattle.objects_payload.specs.bcder_tree.declared.mode.Mode.TheVariants.{Der}
 use Rattle.objects_payload.specs.bcder_tree.Front.{Front}
 use Rattle.objects_payload.specs.bcder_tree.Tags.{sequence_tag}
-use Rattle.objects_payload.specs.bcder_tree.Tree.{SpellsAll, Tree}
+use Rattle.objects_payload.specs.bcder_tree.Tree.{SpellsAll, Tree, Trees}
 use Rattle.objects_payload.specs.bcder_source.declared.error.DecodeError.{DecodeError}
 use Rattle.objects_payload.specs.bcder_source.Views.{Reading}
 use Rattle.objects_payload.specs.bcder_content.declared.constructed.Constructed.{Constructed}
@@ -14,10 +14,10 @@ use Rattle.objects_payload.specs.bcder_content.Captures.{rest_of, Captures, Capt
 use Rattle.objects_payload.specs.bcder_content.Contents.{ValuesLeft}
 use Rattle.objects_payload.specs.bcder_content.Exact.{DecodesAs, Gives, GivesAll, Lacks, LacksAll, ReadsAs}
 use Rattle.objects_payload.specs.bcder_content.InMode.{ReadsFields}
-use Rattle.objects_payload.specs.bcder_content.Grammar.{ExactlyAll, Inside}
+use Rattle.objects_payload.specs.bcder_content.Grammar.{End, ExactlyAll, Inside, Then}
 use Rattle.objects_payload.specs.bcder_content.Words.{Gathers}
 use Rattle.objects_payload.specs.bcder_content.Kept.{CapturedValue}
-use Rattle.objects_payload.specs.bcder_content.Ran.{Reader}
+use Rattle.objects_payload.specs.bcder_content.ClosureReads.{Reader}
 use Rattle.objects_payload.specs.resources_asn.Encodings.{IsAsId}
 use Rattle.objects_payload.proofs.of_bcder_content.Inside.{ReadsEach}
 use Rattle.objects_payload.proofs.of_bcder_content.Kept.{exact_capture}
@@ -72,10 +72,18 @@ captured_few {c = c} customer l x h = subst (λ (k : List ℕ). length k ≤ 100
 
 -- The fields are those of an attestation, and the other way round.
 
+list_as : {P R : Trees → List ℕ → Type 0} {ts : Trees} {x : List ℕ × Unit {0}} → ((us : Trees) → P us x.0 → R us x.0) → Then (Inside sequence_tag P) End ts x → Then (Inside sequence_tag R) End ts x
+list_as means p = record {
+  first = p.first;
+  others = p.others;
+  whole = p.whole;
+  is = record { values = p.is.values; whole = p.is.whole; is = means p.is.values p.is.is };
+  rest = p.rest;
+}
+
 is_aspa : (m : Mode) (t : Tree) (a : Aspa) → Inside sequence_tag (AreFields m) t (fields_of a) → IsAspa t a
 is_aspa m t a p =
     let behind = p.is.rest in
-    let list = behind.rest.is in
     record {
       is = record {
         x = fields_of a;
@@ -92,19 +100,13 @@ is_aspa m t a p =
               others = behind.others;
               whole = behind.whole;
               is = behind.is;
-              rest = record {
-                first = behind.rest.first;
-                others = behind.rest.others;
-                whole = behind.rest.whole;
-                is = record { values = list.values; whole = list.whole; is = list.is.are };
-                rest = behind.rest.rest;
-              };
+              rest = list_as (λ us q. q.are) behind.rest;
             };
           };
         };
         means = refl;
       };
-      meets = list.is.lawful;
+      meets = behind.rest.is.is.lawful;
     }
 
 are_fields : (m : Mode) (t : Tree) (a : Aspa) → IsAspa t a → Inside sequence_tag (AreFields m) t (fields_of a)
@@ -114,7 +116,6 @@ are_fields m t a p = subst (λ (b : Aspa). IsLawful b → Inside sequence_tag (A
     at lawful =
         let q = p.is.is in
         let behind = q.is.rest in
-        let list = behind.rest.is in
         record {
           values = q.values;
           whole = q.whole;
@@ -128,13 +129,7 @@ are_fields m t a p = subst (λ (b : Aspa). IsLawful b → Inside sequence_tag (A
               others = behind.others;
               whole = behind.whole;
               is = behind.is;
-              rest = record {
-                first = behind.rest.first;
-                others = behind.rest.others;
-                whole = behind.rest.whole;
-                is = record { values = list.values; whole = list.whole; is = record { are = list.is; lawful = lawful } };
-                rest = behind.rest.rest;
-              };
+              rest = list_as (λ us p. record { are = p; lawful = lawful }) behind.rest;
             };
           };
         }

@@ -58,12 +58,6 @@ module _ {X : Type 0} (h : X → Bool) where
       ∙ parts_changed p q r s
       ∙ ap (λ (z : List X). z ++ (q ++ s)) (sym (filter-append h front back)) ∙ ap (λ (z : List X). passing (front ++ back) ++ z) (sym (filter-append (λ x. not (h x)) front back))
 
-  pub count_both : (front back : List X) (here there : ℕ) → here ≡ length (passing front) → there ≡ length (passing back) → here + there ≡ length (passing (front ++ back))
-  count_both front back here there m n =
-      let k = length-append (passing front) (passing back) in
-      let joined = ap length (filter-append h front back) in
-      omega (arith, m, n, k, joined)
-
   -- One element, or none.
   pub one_parted : (xs : List X) → length xs < 2 → xs ≡ passing xs ++ others xs
   one_parted [] l = refl

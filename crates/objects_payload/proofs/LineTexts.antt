@@ -4,7 +4,7 @@ use Rattle.std.specs.List.{position_or_len}
 use Rattle.std.proofs.lemmas.List.Elements.{All-nil, All-cons, All-append, All-head, All-tail}
 use Rattle.std.proofs.lemmas.Bool.Decides.{nat_tests}
 use Rattle.objects_payload.specs.Locators.{NoReturnAtEnd, EndsLine, AreLines, IsComment}
-use Rattle.objects_payload.proofs.Locators.{same_before}
+use Rattle.objects_payload.proofs.Locators.{same_before, to_feed}
 use Rattle.objects_payload.specs.Lines.{IsEndedBy, HasLine, NoLine, HasComment, NoComment, HasComments}
 
 -- No LF.
@@ -129,18 +129,6 @@ ended line rest text h = ended_from line rest text h.front h.ends.one_line h.who
 
 pub line_not : (line rest text : List ℕ) → NoLine text → HasLine line rest text → ⊥
 line_not line rest text n h = let e = ended line rest text h in no_feed e.ended rest (subst Plain e.whole n)
-
--- Up to the first LF.
-to_feed : (r s u v : List ℕ) → Plain r → Plain s → r ++ 10 ∷ u ≡ s ++ 10 ∷ v → (r ≡ s) × (u ≡ v)
-to_feed [] [] u v f g e = (refl, cc)
-to_feed [] (d ∷ s) u v f g e = let k : d ≡ 10 = cc in absurd (All-head (λ c. c ≢ 10) d s g k)
-to_feed (c ∷ r) [] u v f g e = let k : c ≡ 10 = cc in absurd (All-head (λ c. c ≢ 10) c r f k)
-to_feed (c ∷ r) (d ∷ s) u v f g e =
-    let k : c ≡ d = cc in
-    let w : r ++ 10 ∷ u ≡ s ++ 10 ∷ v = cc in
-    let t = to_feed r s u v (All-tail (λ c. c ≢ 10) c r f) (All-tail (λ c. c ≢ 10) d s g) w in
-    let z : r ≡ s = t.0 in
-    (cc, t.1)
 
 -- What stands before LF decides the line.
 one_ended : (k l a b : List ℕ) → a ≡ b → IsEndedBy a k → IsEndedBy b l → k ≡ l

@@ -15,7 +15,7 @@ use Rattle.objects_payload.specs.Locators.{NoReturnAtEnd, EndsLine, AreLines, Is
 -- Lines.
 
 -- Up to the first LF.
-to_feed : (r s u v : List ℕ) → All (λ c. c ≢ 10) r → All (λ c. c ≢ 10) s → r ++ 10 ∷ u ≡ s ++ 10 ∷ v → (r ≡ s) × (u ≡ v)
+pub to_feed : (r s u v : List ℕ) → All (λ c. c ≢ 10) r → All (λ c. c ≢ 10) s → r ++ 10 ∷ u ≡ s ++ 10 ∷ v → (r ≡ s) × (u ≡ v)
 to_feed [] [] u v f g e = (refl, cc)
 to_feed [] (d ∷ s) u v f g e = let k : d ≡ 10 = cc in absurd (All-head (λ c. c ≢ 10) d s g k)
 to_feed (c ∷ r) [] u v f g e = let k : c ≡ 10 = cc in absurd (All-head (λ c. c ≢ 10) c r f k)

@@ -20,7 +20,7 @@ use Rattle.objects_payload.specs.bcder_content.Captures.{rest_of, ReadsFront, Re
 use Rattle.objects_payload.specs.bcder_content.Contents.{Ahead, TookAll, Unlike, ValuesLeft, octets}
 use Rattle.objects_payload.specs.bcder_content.Exact.{Gives, LacksTagged}
 use Rattle.objects_payload.specs.bcder_content.Here.{here}
-use Rattle.objects_payload.specs.bcder_content.Ran.{RanIn, Reader, fresh}
+use Rattle.objects_payload.specs.bcder_content.ClosureReads.{ClosureReadsIn, Reader, fresh}
 use Rattle.objects_payload.specs.resources_asn.Encodings.{IsAsId}
 use Rattle.objects_payload.specs.resources_asn.Listed.{InList, IsListOf}
 use Rattle.objects_payload.specs.resources_asn.Numbers.{Number}
@@ -44,7 +44,7 @@ number_taken v w (Some a) g = (more g.tree none, took_one g.took)
 
 -- What each call of a closure says is said of the call that ran.
 ran_met : {F T D : Type 0} {g : Reader F (Constructed Reading) T D} {op : F} {r : Result T (DecodeError D)} {v end : ValuesLeft} (Q : ValuesLeft → ValuesLeft → Type 0)
-    → ((p q : MutBor (Constructed Reading)) → g.post op (p, tt) (r, (q, tt)) → Q (here rest_of p.now) (here rest_of q.now)) → RanIn rest_of g op v r end → Q v end
+    → ((p q : MutBor (Constructed Reading)) → g.post op (p, tt) (r, (q, tt)) → Q (here rest_of p.now) (here rest_of q.now)) → ClosureReadsIn rest_of g op v r end → Q v end
 ran_met {v = v} {end} Q each on =
     let at = each on.met.shown on.met.left on.met.met in
     let given = subst (λ (w : Constructed Reading). Q (here rest_of w) (here rest_of on.met.left.now)) on.met.shows at in

@@ -6,7 +6,7 @@ use Rattle.objects_payload.specs.bcder_tree.declared.mode.Mode.{Mode}
 use Rattle.objects_payload.specs.bcder_tree.Tags.{integer_tag, sequence_tag}
 use Rattle.objects_payload.specs.bcder_tree.Tree.{Tree, Trees}
 use Rattle.objects_payload.specs.bcder_primitive.Values.{IsUnsigned}
-use Rattle.objects_payload.specs.bcder_content.Grammar.{As, End, Inside, Many, OctetsOf, Opt, Such, Then}
+use Rattle.objects_payload.specs.bcder_content.Grammar.{As, End, Inside, Many, OctetsOf, Opt, Where, Then}
 use Rattle.objects_payload.specs.resources_ip_prefix.AddrPrefixes.{bits_of, family_of}
 use Rattle.objects_payload.specs.resources_ip_prefix.Prefixes.{first_of}
 use Rattle.objects_payload.specs.resources_ip_prefix.Wide.{widened}
@@ -21,13 +21,16 @@ abbrev pub AddressFields : Type 0
 AddressFields = FirstBits × (Option ℕ × Unit {0})
 
 abbrev pub AreAddressFields : AddressFamily → Mode → Trees → AddressFields → Type 0
-AreAddressFields family m = Then (IsAddress m family) (Opt integer_tag (OctetsOf integer_tag (IsUnsigned (2 ^ 8))) End)
+AreAddressFields family m =
+    Then (IsAddress m family) (Opt integer_tag (OctetsOf integer_tag (IsUnsigned (2 ^ 8))) End)
 
 abbrev pub IsAddressOf : AddressFamily → Mode → Tree → RoaAddress → Type 0
-IsAddressOf family m = Such (As (Inside sequence_tag (AreAddressFields family m)) address_of) (HasMaxLen family)
+IsAddressOf family m =
+    Where (As (Inside sequence_tag (AreAddressFields family m)) address_of) (HasMaxLen family)
 
 -- An address of the family, by its fields.
-pub record AreAddress (family : AddressFamily) (m : Mode) (ts : Trees) (a : RoaAddress) : Type 0 where
+pub record AreAddress (family : AddressFamily) (m : Mode) (ts : Trees) (a : RoaAddress)
+    : Type 0 where
   pub fields : AddressFields
   pub are : AreAddressFields family m ts fields
   pub means : a ≡ address_of fields
@@ -46,7 +49,8 @@ roa_address a = address_of (address_fields a)
 
 -- The prefix of an address's first bits, with a greatest length where one is given.
 abbrev pub address_from : IpAddr → ℕ → Option ℕ → RoaAddress
-address_from ip len most = record { addr = first_of len (widened (family_of ip) (bits_of ip)); len = len; max_len = most }
+address_from ip len most =
+    record { addr = first_of len (widened (family_of ip) (bits_of ip)); len = len; max_len = most }
 
 -- A content with one address more of the family of an IP address.
 abbrev pub with_address : Roa → IpAddr → RoaAddress → Roa

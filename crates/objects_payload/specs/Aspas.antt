@@ -2,7 +2,7 @@
 use Rattle.std.specs.Prelude.{◌≡◌, ℕ, ◌≤◌, Bool, List, [], ◌∷◌, length}
 use Rattle.objects_payload.specs.bcder_tree.Tags.{sequence_tag}
 use Rattle.objects_payload.specs.bcder_tree.Tree.{Tree}
-use Rattle.objects_payload.specs.bcder_content.Grammar.{Inside, As, Such, Then, Many, End}
+use Rattle.objects_payload.specs.bcder_content.Grammar.{Inside, As, Where, Then, Many, End}
 use Rattle.objects_payload.specs.resources_asn.Encodings.{IsAsId}
 use Rattle.objects_payload.specs.resources_asn.Listed.{InList, IsAscending}
 use Rattle.objects_payload.specs.ObjectText.{Object}
@@ -27,7 +27,8 @@ aspa_of f = record { customer = f.1.0; providers = f.1.1.0 }
 
 -- ASProviderAttestation ::= SEQUENCE { version [0] INTEGER (1), customerASID ASID, providers SEQUENCE (SIZE(1..MAX)) OF ASID }
 abbrev pub IsAspa : Tree → Aspa → Type 0
-IsAspa = Such (As (Inside sequence_tag (Then (IsVersion 1) (Then IsAsId (Then (Inside sequence_tag (Many IsAsId)) End)))) aspa_of) IsLawful
+IsAspa = Where (As (Inside sequence_tag (Then (IsVersion 1)
+    (Then IsAsId (Then (Inside sequence_tag (Many IsAsId)) End)))) aspa_of) IsLawful
 
 -- A signed object that is a provider attestation.
 abbrev pub AspaText : Bool → List ℕ → Object → Aspa → Type 0

@@ -6,6 +6,7 @@ use Rattle.objects_payload.specs.bcder_source.declared.error.DecodeError.{Decode
 use Rattle.objects_payload.specs.bcder_content.Texts.{ReadsFront}
 
 -- The value of Q in DER in front of the octets, or there is none.
-abbrev pub DecodesFront : {A E : Type 0} → (Tree → A → Type 0) → List ℕ → Result A (DecodeError E) → Type 0
+abbrev pub DecodesFront : {A E : Type 0} → (Tree → A → Type 0) → List ℕ → Result A (DecodeError E)
+    → Type 0
 DecodesFront Q octets (Ok x) = ReadsFront Q octets x
 DecodesFront {A} Q octets (Err e) = OnContent e ((x : A) → ReadsFront Q octets x → ⊥)

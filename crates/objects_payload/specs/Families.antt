@@ -13,7 +13,8 @@ use Rattle.objects_payload.specs.Addresses.{AreAddresses}
 
 -- SEQUENCE { addressFamily OCTET STRING, addresses SEQUENCE OF ROAIPAddress }, by its values
 pub record AreFamilyIn (m : Mode) (ts : Trees) (x : FamilyAddresses) : Type 0 where
-  pub are : Then (IsFamily m) (Then (Inside sequence_tag (AreAddresses x.family m)) End) ts (x.family, (x.addresses, tt))
+  pub are : Then (IsFamily m) (Then (Inside sequence_tag (AreAddresses x.family m)) End) ts
+      (x.family, (x.addresses, tt))
 
 abbrev pub IsFamilyOf : Mode → Tree → FamilyAddresses → Type 0
 IsFamilyOf m = Inside sequence_tag (AreFamilyIn m)
@@ -22,7 +23,8 @@ IsFamilyOf m = Inside sequence_tag (AreFamilyIn m)
 abbrev pub ArePair : Mode → Trees → FamilyPair → Type 0
 ArePair m = Then (IsFamilyOf m) (Opt sequence_tag (IsFamilyOf m) End)
 
-pub record AreFamilies (m : Mode) (ts : Trees) (x : List RoaAddress × List RoaAddress) : Type 0 where
+pub record AreFamilies (m : Mode) (ts : Trees) (x : List RoaAddress × List RoaAddress)
+    : Type 0 where
   pub families : FamilyPair
   pub are : ArePair m ts families
   pub of : AreOf families.0 families.1.0 x.0 x.1

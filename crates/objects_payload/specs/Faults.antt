@@ -95,7 +95,8 @@ TakesUris text (Err Memory) = StartsWithUri text
 
 -- The octets that a text is base 64 of, and no others.
 abbrev pub Decodes : List ℕ → Result (Vec ℕ Global) ReadError → Type 0
-Decodes text (Ok x) = IsBase64 x.items text × ((octets : List ℕ) → IsBase64 octets text → octets ≡ x.items)
+Decodes text (Ok x) =
+    IsBase64 x.items text × ((octets : List ℕ) → IsBase64 octets text → octets ≡ x.items)
 Decodes text (Err Io) = ⊥
 Decodes text (Err UnexpectedEof) = ⊥
 Decodes text (Err BadUri) = ⊥

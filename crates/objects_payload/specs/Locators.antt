@@ -19,7 +19,8 @@ pub record EndsLine (line octets : List ℕ) : Type 0 where
 -- The lines with their ends, one after the other.
 abbrev pub AreLines : List (List ℕ) → List ℕ → Type 0
 AreLines [] octets = octets ≡ []
-AreLines (line ∷ lines) octets = (a : List ℕ) × (b : List ℕ) × EndsLine line a × AreLines lines b × (octets ≡ a ++ b)
+AreLines (line ∷ lines) octets =
+    (a : List ℕ) × (b : List ℕ) × EndsLine line a × AreLines lines b × (octets ≡ a ++ b)
 
 -- A comment begins with `#`.
 abbrev pub IsComment : List ℕ → Type 0
@@ -35,7 +36,8 @@ abbrev pub base64 : List ℕ → List ℕ
 base64 [] = []
 base64 (a ∷ []) = letter (a / 4) ∷ letter (a % 4 * 16) ∷ 61 ∷ 61 ∷ []
 base64 (a ∷ b ∷ []) = letter (a / 4) ∷ letter (a % 4 * 16 + b / 16) ∷ letter (b % 16 * 4) ∷ 61 ∷ []
-base64 (a ∷ b ∷ c ∷ v) = letter (a / 4) ∷ letter (a % 4 * 16 + b / 16) ∷ letter (b % 16 * 4 + c / 64) ∷ letter (c % 64) ∷ base64 v
+base64 (a ∷ b ∷ c ∷ v) = letter (a / 4) ∷ letter (a % 4 * 16 + b / 16)
+    ∷ letter (b % 16 * 4 + c / 64) ∷ letter (c % 64) ∷ base64 v
 
 -- Tab, LF, form feed, CR and space are dropped from the key's text.
 abbrev pub is_dropped : ℕ → Bool

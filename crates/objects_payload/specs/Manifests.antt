@@ -8,7 +8,7 @@ use Rattle.objects_payload.specs.bcder.Sets.{alone}
 use Rattle.objects_payload.specs.bcder.Restricted.{IsRestricted}
 use Rattle.objects_payload.specs.bcder_octets.Bits.{BitsValue}
 use Rattle.objects_payload.specs.bcder_octets.BitContents.{IsBitString}
-use Rattle.objects_payload.specs.bcder_content.Grammar.{OctetsOf, Inside, As, Such, Then, Many, End}
+use Rattle.objects_payload.specs.bcder_content.Grammar.{OctetsOf, Inside, As, Where, Then, Many, End}
 use Rattle.objects_payload.specs.certs_basics.Times.{IsMoment}
 use Rattle.objects_payload.specs.certs_basics.Basics.{IsSerial}
 use Rattle.objects_payload.specs.ObjectText.{Object}
@@ -38,7 +38,9 @@ file_of f = record { name = f.0; hash = f.1.0.octets }
 
 -- FileAndHash ::= SEQUENCE { file IA5String, hash BIT STRING } (RFC 9286 4.2)
 abbrev pub IsFile : Tree → File → Type 0
-IsFile = As (Inside sequence_tag (Then (Such (IsRestricted IsIa5 alone Der ia5_string_tag) IsFileName) (Then (Such (OctetsOf (universal 3) (IsBitString Der)) IsWhole) End))) file_of
+IsFile = As (Inside sequence_tag
+    (Then (Where (IsRestricted IsIa5 alone Der ia5_string_tag) IsFileName)
+    (Then (Where (OctetsOf (universal 3) (IsBitString Der)) IsWhole) End))) file_of
 
 -- A moment as GeneralizedTime alone (RFC 9286 4.2.1).
 abbrev pub IsMomentString : Tree → ℕ → Type 0
@@ -54,12 +56,15 @@ abbrev pub Fields : Type 0
 Fields = Option (Unit {0} × Unit {0}) × (ℕ × (ℕ × (ℕ × (Unit {0} × (List File × Unit {0})))))
 
 abbrev pub manifest_of : Fields → Manifest
-manifest_of f = record { number = f.1.0; this_update = f.1.1.0; next_update = f.1.1.1.0; files = f.1.1.1.1.1.0 }
+manifest_of f =
+    record { number = f.1.0; this_update = f.1.1.0; next_update = f.1.1.1.0; files = f.1.1.1.1.1.0 }
 
 -- Manifest ::= SEQUENCE { version [0] INTEGER DEFAULT 0, manifestNumber INTEGER, thisUpdate GeneralizedTime, nextUpdate
 -- GeneralizedTime, fileHashAlg OBJECT IDENTIFIER (SHA-256), fileList SEQUENCE OF FileAndHash } (RFC 9286 4.2)
 abbrev pub IsManifest : Tree → Manifest → Type 0
-IsManifest = As (Inside sequence_tag (VersionZero (Then IsSerial (Then IsMomentString (Then IsMomentString (Then (id.TheOid id.sha256) (Then (Inside sequence_tag (Many IsFile)) End))))))) manifest_of
+IsManifest = As (Inside sequence_tag (VersionZero
+    (Then IsSerial (Then IsMomentString (Then IsMomentString
+    (Then (id.TheOid id.sha256) (Then (Inside sequence_tag (Many IsFile)) End))))))) manifest_of
 
 -- A signed object that is a manifest (RFC 9286 4.1).
 abbrev pub ManifestText : Bool → List ℕ → Object → Manifest → Type 0

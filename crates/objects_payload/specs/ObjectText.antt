@@ -53,7 +53,8 @@ AreDigestAlgorithms = Inside set_tag (Then id.IsDigestAlgorithm End)
 -- EncapsulatedContentInfo ::= SEQUENCE { eContentType OBJECT IDENTIFIER, eContent [0] EXPLICIT OCTET STRING }
 -- (RFC 5652 5.2, RFC 6488 2.1.3)
 abbrev pub IsContentInfo : Mode → Tree → List ℕ × ((List ℕ × Unit {0}) × Unit {0}) → Type 0
-IsContentInfo m = Inside sequence_tag (Then (OctetsOf oid_tag IsOid) (Then (Inside (context 0) (Then (IsOctetString m) End)) End))
+IsContentInfo m = Inside sequence_tag (Then (OctetsOf oid_tag IsOid)
+    (Then (Inside (context 0) (Then (IsOctetString m) End)) End))
 
 -- [0] IMPLICIT SubjectKeyIdentifier: 20 octets (RFC 6488 2.1.6.2)
 abbrev pub IsSid : Mode → Tree → List ℕ → Type 0
@@ -62,7 +63,8 @@ IsSid m = IsKeyIdentifier m (context 0)
 -- SignerInfo ::= SEQUENCE { version INTEGER (3), sid, digestAlgorithm, signedAttrs, signatureAlgorithm, signature OCTET
 -- STRING }; the attributes' content octets are kept, since they are signed as they stand (RFC 5652 5.3, 5.4; RFC 6488 2.1.6)
 abbrev pub SignerFields : Type 0
-SignerFields = Unit {0} × (List ℕ × (Unit {0} × ((List ℕ × AttributesValue) × (Bool × (List ℕ × Unit {0})))))
+SignerFields =
+    Unit {0} × (List ℕ × (Unit {0} × ((List ℕ × AttributesValue) × (Bool × (List ℕ × Unit {0})))))
 
 abbrev pub SpellsSigner : Mode → List ℕ → SignerFields → Type 0
 SpellsSigner m =
@@ -89,7 +91,9 @@ signer_of f = record {
 -- SignedData ::= SEQUENCE { version INTEGER (3), digestAlgorithms, encapContentInfo, certificates [0] IMPLICIT SET of one
 -- certificate, signerInfos SET of one signer }, without CRLs (RFC 5652 5.1, RFC 6488 2.1)
 abbrev pub SignedFields : Type 0
-SignedFields = Unit {0} × ((Unit {0} × Unit {0}) × ((List ℕ × ((List ℕ × Unit {0}) × Unit {0})) × ((CertValue × Unit {0}) × ((SignerFields × Unit {0}) × Unit {0}))))
+SignedFields = Unit {0} × ((Unit {0} × Unit {0})
+    × ((List ℕ × ((List ℕ × Unit {0}) × Unit {0}))
+    × ((CertValue × Unit {0}) × ((SignerFields × Unit {0}) × Unit {0}))))
 
 abbrev pub SpellsSignedData : Mode → List ℕ → SignedFields → Type 0
 SpellsSignedData m =
@@ -113,7 +117,12 @@ SpellsContentInfo m =
     NoOctets))
 
 abbrev pub object_of : SignedFields → Object
-object_of f = record { content_type = f.1.1.0.0; content = f.1.1.0.1.0.0; cert = f.1.1.1.0.0; signer = signer_of f.1.1.1.1.0.0 }
+object_of f = record {
+  content_type = f.1.1.0.0;
+  content = f.1.1.0.1.0.0;
+  cert = f.1.1.1.0.0;
+  signer = signer_of f.1.1.1.1.0.0;
+}
 
 -- The attribute for the content's type has that type, and the signer is the certificate's subject (RFC 6488 2.1.6).
 pub record SaysObject (f : SignedFields) (o : Object) : Type 0 where

@@ -6,4 +6,5 @@ use Rattle.objects_payload.specs.resources_chain.declared.choice.ResourcesChoice
 
 -- That AS number is listed, and no other.
 abbrev pub ListsAlone : ℕ → ResourcesChoice (List Run) → Type 0
-ListsAlone number choice = (runs : List Run) × (choice ≡ Blocks runs) × IsRunsOf (λ n. n ≡ number) runs
+ListsAlone number choice =
+    (runs : List Run) × (choice ≡ Blocks runs) × IsRunsOf (λ n. n ≡ number) runs

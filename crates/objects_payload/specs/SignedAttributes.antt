@@ -24,7 +24,8 @@ attribute_of f = record { kind = f.0; value = f.1.0.0 }
 
 -- Attribute ::= SEQUENCE { attrType OBJECT IDENTIFIER, attrValues SET OF AttributeValue }, with one value (RFC 6488 2.1.6.4)
 abbrev pub IsAttribute : Tree → Attribute → Type 0
-IsAttribute = As (Inside sequence_tag (Then (OctetsOf oid_tag IsOid) (Then (Inside set_tag (Then Itself End)) End))) attribute_of
+IsAttribute = As (Inside sequence_tag (Then (OctetsOf oid_tag IsOid)
+    (Then (Inside set_tag (Then Itself End)) End))) attribute_of
 
 abbrev pub those_of : List ℕ → List Attribute → List Attribute
 those_of kind all = filter (λ a. bytes_eq a.kind kind) all
@@ -54,10 +55,12 @@ pub record AttributesValue : Type 0 where
 -- Content type and digest once each, the two times at most once each, and no other (RFC 6488 2.1.6.4).
 pub record AreSigned (m : Mode) (all : List Attribute) (s : AttributesValue) : Type 0 where
   pub no_other : All (λ a. Contains kinds a.kind) all
-  pub content_type : IsOnce (OctetsOf oid_tag IsOid) (those_of id.content_type all) (Some s.content_type)
+  pub content_type : IsOnce (OctetsOf oid_tag IsOid) (those_of id.content_type all)
+      (Some s.content_type)
   pub digest : IsOnce (IsOctetString m) (those_of id.message_digest all) (Some s.digest)
   pub signing_time : IsOnce IsTime (those_of id.signing_time all) s.signing_time
-  pub binary_signing_time : IsOnce IsBinaryTime (those_of id.binary_signing_time all) s.binary_signing_time
+  pub binary_signing_time : IsOnce IsBinaryTime
+      (those_of id.binary_signing_time all) s.binary_signing_time
 
 -- signedAttrs [0] IMPLICIT SET OF Attribute (RFC 5652 5.3)
 abbrev pub AreAttributes : Mode → Trees → AttributesValue → Type 0

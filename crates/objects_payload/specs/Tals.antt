@@ -42,17 +42,20 @@ TakesText before after (Err BadKeyInfo) = ⊥
 TakesText before after (Err Memory) = GivesSome before after
 
 -- What the reader's whole text is read as.
-pub record TellsTal (name : String Global) (before after : Option (List ℕ)) (answer : Result TalValue ReadError) : Type 0 where
+pub record TellsTal (name : String Global) (before after : Option (List ℕ))
+    (answer : Result TalValue ReadError) : Type 0 where
   pub text : List ℕ
   pub tells : Tells before after text
   pub reads : ReadsTal name text answer
 
 -- The locator that the reader's whole text is, or the first fault in it; or reading stopped.
-abbrev pub ReadsNamed : String Global → Option (List ℕ) → Option (List ℕ) → Result TalValue ReadError → Type 0
+abbrev pub ReadsNamed : String Global → Option (List ℕ) → Option (List ℕ)
+    → Result TalValue ReadError → Type 0
 ReadsNamed name before after (Ok tal) = TellsTal name before after (Ok tal)
 ReadsNamed name before after (Err Io) = GivesSome before after
 ReadsNamed name before after (Err UnexpectedEof) = TellsTal name before after (Err UnexpectedEof)
 ReadsNamed name before after (Err BadUri) = TellsTal name before after (Err BadUri)
-ReadsNamed name before after (Err BadKeyInfoEncoding) = TellsTal name before after (Err BadKeyInfoEncoding)
+ReadsNamed name before after (Err BadKeyInfoEncoding) =
+    TellsTal name before after (Err BadKeyInfoEncoding)
 ReadsNamed name before after (Err BadKeyInfo) = TellsTal name before after (Err BadKeyInfo)
 ReadsNamed name before after (Err Memory) = GivesSome before after

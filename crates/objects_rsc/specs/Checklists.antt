@@ -2,7 +2,7 @@
 use Rattle.std.specs.Prelude.{◌≢◌, ℕ, Bool, List, [], ◌∷◌, ◌++◌, Option}
 use Rattle.objects_payload.specs.bcder.Restricted.{IsRestricted}
 use Rattle.objects_payload.specs.bcder.Sets.{alone}
-use Rattle.objects_payload.specs.bcder_content.Grammar.{As, End, Inside, Many, Opt, Such, Then}
+use Rattle.objects_payload.specs.bcder_content.Grammar.{As, End, Inside, Many, Opt, Where, Then}
 use Rattle.objects_payload.specs.bcder_tree.declared.mode.Mode.{Mode}
 use Rattle.objects_payload.specs.bcder_tree.declared.mode.Mode.TheVariants.{Der}
 use Rattle.objects_payload.specs.bcder_tree.Strings.{IsIa5, IsOctetString}
@@ -44,7 +44,7 @@ abbrev pub AreSome : List CheckedFile → Type 0
 AreSome files = files ≢ []
 
 abbrev pub AreCheckedFiles : Mode → Tree → List CheckedFile → Type 0
-AreCheckedFiles m = Such (Inside sequence_tag (Many (IsCheckedFile m))) AreSome
+AreCheckedFiles m = Where (Inside sequence_tag (Many (IsCheckedFile m))) AreSome
 
 -- What a checklist says: by whose resources, and of which files.
 pub record Checklist : Type 0 where

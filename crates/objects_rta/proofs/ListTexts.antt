@@ -1,56 +1,26 @@
 -- Revocation lists that are all of a content, and all of the octets.
-use Rattle.std.proofs.Common.{◌≡◌, ℕ, true, false, List, [], ◌++◌, length, Option, None, Some, Result, Ok, Err, ap, refl, sym, ◌∙◌, subst, append-nil}
+use Rattle.std.proofs.Common.{◌≡◌, ℕ, true, false, List, Some, Result, Ok, Err, ap, sym, ◌∙◌, subst}
 use Rattle.std.specs.Result.{IsErr, IsErrAnd}
-use denote.Ref.{MutBor}
 use Rattle.objects_cms.specs.bcder_tree.declared.mode.Mode.{Mode}
 use Rattle.objects_cms.specs.bcder_tree.declared.mode.Mode.TheVariants.{Der}
 use Rattle.objects_cms.specs.bcder_tree.Tags.{sequence_tag}
-use Rattle.objects_cms.specs.bcder_tree.Tree.{SpellsAll, Trees}
-use Rattle.objects_cms.specs.bcder_source.Views.{limited, more_limit}
+use Rattle.objects_cms.specs.bcder_tree.Tree.{SpellsAll}
 use Rattle.objects_cms.specs.bcder_source.Errors.{OnContent}
 use Rattle.objects_cms.specs.bcder_source.declared.error.DecodeError.{DecodeError}
 use Rattle.objects_cms.specs.bcder_source.declared.error.DecodeError.TheVariants.{Content, Source, Memory}
 use Rattle.objects_cms.specs.bcder_content.Captures.{CapturesAll}
 use Rattle.objects_cms.specs.bcder_content.declared.constructed.Constructed.{Constructed}
-use Rattle.objects_cms.specs.bcder_content.Contents.{EndsHere, Ended, ValuesLeft, Whole, octets, tag_of}
+use Rattle.objects_cms.specs.bcder_content.Contents.{Ended, ValuesLeft, tag_of}
 use Rattle.objects_cms.specs.bcder_content.Exact.{GivesAll, LacksAll}
 use Rattle.objects_cms.specs.bcder_content.Grammar.{Many, Tagged}
-use Rattle.objects_cms.specs.bcder_content.Here.{here}
 use Rattle.objects_cms.specs.bcder_content.Kept.{CapturedValue}
-use Rattle.objects_cms.specs.bcder_content.Ran.{Decoded, DecodedCases, RanIn, Reader, failed_in, fresh, refused_in}
+use Rattle.objects_cms.specs.bcder_content.ClosureReads.{Decoded, DecodedCases, Reader, failed_in, fresh, refused_in}
 use Rattle.objects_cms.specs.bcder_content.Skips.{NotWhole}
 use Rattle.objects_cms.specs.certs_x509.Took.{TookOctets}
 use Rattle.objects_cms.specs.certs_extension.CrlText.{CrlValue, IsCrl}
-use Rattle.objects_rta.specs.Carried.{AnyOctets, AreValues, octets_of}
-use Rattle.objects_rta.specs.Carried.{AreWhole, DecodesLists, ReadsWhole}
-
--- All octets of a source spell values where these are all of it.
-no_limit : (n : ℕ) (l : Option ℕ) → None ≡ more_limit n l → l ≡ None
-no_limit n None e = refl
-no_limit n (Some k) e = absurd cc
-
-ends_with : {v : ValuesLeft} → Ended v → v.end ≡ (fresh v.mode []).end → v.limit ≡ None → v.rest ≡ []
-ends_with {v} e end limit =
-    let here = subst (λ z. EndsHere z (octets v)) end e.ends in
-    sym (ap (λ (l : Option ℕ). limited l v.rest) limit) ∙ here
-
-whole_spelled : {m : Mode} {o : List ℕ} {ts : Trees} → Whole (fresh m o) ts → SpellsAll m ts o
-whole_spelled {m} {o} {ts} w =
-    let limit = no_limit (length w.took.text) w.behind.limit w.took.goes.moved.limit in
-    let none : w.behind.rest ≡ [] = ends_with w.ended w.took.goes.end limit in
-    let same : o ≡ w.took.text = w.took.goes.moved.rest ∙ ap (λ (z : List ℕ). w.took.text ++ z) none ∙ append-nil w.took.text in
-    subst (λ (z : List ℕ). SpellsAll m ts z) (sym same) w.took.spelled
-
-spelled_whole : {m : Mode} {o : List ℕ} {ts : Trees} → SpellsAll m ts o → Whole (fresh m o) ts
-spelled_whole {m} {o} {ts} s = record {
-  behind = fresh m [];
-  took = record {
-    text = o;
-    spelled = s;
-    goes = record { moved = record { rest = sym (append-nil o); limit = refl }; mode = refl; end = refl; before = refl; behind = refl };
-  };
-  ended = record { sound = refl; ends = refl };
-}
+use Rattle.objects_cms.proofs.Calls.{EachCall, call_in}
+use Rattle.objects_cms.proofs.Wholes.{spelled_whole, whole_spelled}
+use Rattle.objects_rta.specs.Carried.{AnyOctets, AreValues, AreWhole, DecodesLists, ReadsWhole, octets_of}
 
 -- The octets of all values were kept.
 pub kept_values : {v new : ValuesLeft} {c : CapturedValue} → CapturesAll v c new → GivesAll (AreValues v.mode) v (octets_of c) new
@@ -82,26 +52,18 @@ pub whole_ends : {v mid new : ValuesLeft} {crls : List CrlValue} → GivesAll (M
 whole_ends {v} {crls = crls} g e ended = subst (λ (w : ValuesLeft). AreWhole v crls w) (sym e) (record { trees = g.trees; took = g.took; ended = ended; is = g.is })
 
 -- Each call of the closure reads lists that are all of its content.
-pub record EachWhole {F S T E : Type 0} (rest : S → List ℕ) (g : Reader F (Constructed S) T E) (op : F) (f : T → List CrlValue) : Type 0 where
-  pub each : (p q : MutBor (Constructed S)) (r : Result T (DecodeError E)) → g.post op (p, tt) (r, (q, tt)) → ReadsWhole f (here rest p.now) r (here rest q.now)
-
-in_fresh : {F S T E : Type 0} {rest : S → List ℕ} {g : Reader F (Constructed S) T E} {op : F} {f : T → List CrlValue} {v end : ValuesLeft} {r : Result T (DecodeError E)}
-    → EachWhole rest g op f → RanIn rest g op v r end → ReadsWhole f v r end
-in_fresh {S = S} {rest = rest} {f = f} {v = v} {r = r} each on =
-    let at = each.each on.met.shown on.met.left r on.met.met in
-    let given = subst (λ (w : Constructed S). ReadsWhole f (here rest w) r (here rest on.met.left.now)) on.met.shows at in
-    let stop = subst (λ (w : Constructed S). ReadsWhole f (here rest on.given) r (here rest w)) on.met.leaves given in
-    subst (λ (w : ValuesLeft). ReadsWhole f v r w) on.ends (subst (λ (w : ValuesLeft). ReadsWhole f w r (here rest on.left)) on.starts stop)
+abbrev pub EachWhole : {F S T E : Type 0} → (S → List ℕ) → Reader F (Constructed S) T E → F → (T → List CrlValue) → Type 0
+EachWhole {T = T} {E} rest g op f = EachCall rest g op (λ (v : ValuesLeft) (r : Result T (DecodeError E)) (w : ValuesLeft). ReadsWhole f v r w)
 
 decoded_cases : {F S T E : Type 0} {rest : S → List ℕ} {g : Reader F (Constructed S) T E} {op : F} {f : T → List CrlValue} (o : List ℕ) (r : Result T (DecodeError E))
     → EachWhole rest g op f → DecodedCases rest g op (fresh Der o) r → DecodesLists f (Some o) r
 decoded_cases o (Ok x) each h =
-    let w = in_fresh each h.1 in
+    let w = call_in each h.1 in
     record { trees = w.trees; is = w.is; spelled = whole_spelled (record { behind = h.0; took = w.took; ended = w.ended }) }
 decoded_cases o (Err (Content x pos)) each h = λ crls p.
     elim h [
-      | refused_in end on ↦ (in_fresh each on).none p.trees crls p.is (spelled_whole p.spelled)
-      | failed_in end z on failed ↦ let w = in_fresh each on in let e : true ≡ false = sym failed ∙ w.took.goes.behind in absurd cc
+      | refused_in end on ↦ (call_in each on).none p.trees crls p.is (spelled_whole p.spelled)
+      | failed_in end z on failed ↦ let w = call_in each on in let e : true ≡ false = sym failed ∙ w.took.goes.behind in absurd cc
     ]
 decoded_cases o (Err (Source x)) each h = tt
 decoded_cases o (Err Memory) each h = tt

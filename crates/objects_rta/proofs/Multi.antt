@@ -1,21 +1,20 @@
 -- A signed object with several signers is a frame whose parts agree, and whose lists are lists.
-use Rattle.std.proofs.Common.{◌≡◌, ℕ, Bool, true, false, List, [], ◌∷◌, ◌++◌, Result, Ok, Err, map, suc, ap, ◌∙◌, subst, sym, arith}
+use Rattle.std.proofs.Common.{◌≡◌, ℕ, Bool, List, [], ◌∷◌, ◌++◌, Result, Ok, Err, map, suc, ap, ◌∙◌, subst, sym, arith}
 use Rattle.std.proofs.lemmas.List.Elements.{All-cons, All-map, All-nil}
 use Rattle.std.specs.Prelude.{All, IsErr, IsErrAnd, OnOk}
 use Rattle.objects_cms.specs.bcder_tree.declared.mode.Mode.{Mode}
 use Rattle.objects_cms.specs.bcder_source.Errors.{OnContent}
 use Rattle.objects_cms.specs.bcder_source.declared.error.DecodeError.{DecodeError}
-use Rattle.objects_cms.specs.bcder_source.declared.error.DecodeError.TheVariants.{Content, Source, Memory}
 use Rattle.objects_cms.specs.bcder_content.declared.constructed.Constructed.{Constructed}
 use Rattle.objects_cms.specs.bcder_content.Contents.{ValuesLeft}
 use Rattle.objects_cms.specs.bcder_content.Exact.{Lacks}
-use Rattle.objects_cms.specs.bcder_content.Ran.{Decoded, DecodedCases, Reader, failed_in, fresh, refused_in}
+use Rattle.objects_cms.specs.bcder_content.ClosureReads.{Decoded, Reader, fresh}
 use Rattle.objects_cms.specs.certs_extension.CrlText.{CrlValue}
 use Rattle.objects_cms.specs.certs_x509.Took.{TookOctets}
 use Rattle.objects_cms.specs.objects_payload.ObjectText.{SignerFields, mode}
 use Rattle.objects_cms.specs.Decoded.{LacksOctets, ReadsOctets}
 use Rattle.objects_cms.specs.Signer.{signer_fields}
-use Rattle.objects_cms.proofs.Whole.{EachOctets, front_goes, octets_fresh}
+use Rattle.objects_cms.proofs.Whole.{DecodesFront, EachOctets, decodes_front}
 use Rattle.objects_cms.proofs.of_bcder_content.Taking.{weaker}
 use Rattle.objects_rta.specs.Carried.{AreListsIn}
 use Rattle.objects_rta.specs.MultiText.{InfoFields, Multi, MultiText, SignsType, SpellsMulti, lists_of}
@@ -91,26 +90,14 @@ multi_made {now = now} new (Ok o) g a same = subst (λ (v : ValuesLeft). TookOct
 multi_made new (Err e) g a same = weaker e (λ n. multi_disagrees g n) a
 
 -- Decoding with a closure that reads an object exactly, in the mode that was asked for.
-decoded_cases : {F S E : Type 0} {rest : S → List ℕ} {g : Reader F (Constructed S) Multi E} {op : F} (strict : Bool) (o : List ℕ)
-    (r : Result Multi (DecodeError E)) → EachOctets rest g op (λ (z : Multi). z) SpellsMulti → DecodedCases rest g op (fresh (mode strict) o) r
-    → DecodesMulti strict o r
-decoded_cases strict o (Ok x) each h =
-    let k = octets_fresh each h.1 in
-    record { text = k.text; rest = h.0.rest; whole = k.goes.moved.rest; is = k.is }
-decoded_cases strict o (Err (Content x pos)) each h = λ y p.
-    elim h [
-      | refused_in end on ↦ (octets_fresh each on).none p.text y (fresh (mode strict) p.rest) (front_goes p.whole) p.is
-      | failed_in end v on failed ↦ let k = octets_fresh each on in let e : true ≡ false = sym failed ∙ k.goes.behind in absurd cc
-    ]
-decoded_cases strict o (Err (Source x)) each h = tt
-decoded_cases strict o (Err Memory) each h = tt
-
 pub decodes_multi : {F S E : Type 0} {m : Mode} {rest : S → List ℕ} {g : Reader F (Constructed S) Multi E} {op : F} {o : List ℕ}
-    {r : Result Multi (DecodeError E)} (strict : Bool) → m ≡ mode strict → EachOctets rest g op (λ (z : Multi). z) SpellsMulti
+    {r : Result Multi (DecodeError E)} (strict : Bool) → m ≡ mode strict → EachOctets rest g op SpellsMulti
     → Decoded rest g op (fresh m o) r → DecodesMulti strict o r
-decodes_multi {rest = rest} {g} {op} {o} {r} strict e each h =
-    let d = subst (λ (z : Mode). Decoded rest g op (fresh z o) r) e h in
-    decoded_cases strict o r each d.cases
+decodes_multi {o = o} {r} strict e each h = as_multi r (decodes_front SpellsMulti strict e each h)
+  where
+    as_multi : {E : Type 0} (r : Result Multi (DecodeError E)) → DecodesFront (SpellsMulti (mode strict)) o r → DecodesMulti strict o r
+    as_multi (Ok x) d = d
+    as_multi (Err x) d = d
 
 -- Octets have one content at most, of one type.
 fields_content : {m : Mode} {a b : List ℕ} (u v : List ℕ) {x y : Multi} (p : SpellsMulti m a x) (q : SpellsMulti m b y) → a ++ u ≡ b ++ v

@@ -14,7 +14,7 @@ use Rattle.objects_cms.specs.bcder_content.Contents.{Goes, Unlike, ValuesLeft, t
 use Rattle.objects_cms.specs.bcder_content.Exact.{Gives, GivesAll, LacksAll}
 use Rattle.objects_cms.specs.bcder_content.Grammar.{Many, Tagged}
 use Rattle.objects_cms.specs.bcder_content.InMode.{ReadsFields}
-use Rattle.objects_cms.specs.bcder_content.Ran.{RanOpt, RanOptCases, Reader}
+use Rattle.objects_cms.specs.bcder_content.ClosureReads.{ClosureReadsOpt, ClosureReadsOptCases, Reader}
 use Rattle.objects_cms.specs.bcder_content.Texts.{Wraps}
 use Rattle.objects_cms.proofs.of_bcder_content.Forests.{Perhaps as Found}
 use Rattle.objects_cms.proofs.of_bcder_content.InMode.{Items, begin, items_begin, items_next}
@@ -128,14 +128,14 @@ some_took e some t = as_read e (record { text = t.text; goes = t.goes; is = reco
 
 -- An optional value by a closure: its content is what the closure read.
 opt_cases : {F S T B E : Type 0} {rest : S → List ℕ} {g : Reader F (Constructed S) T E} {op : F} {f : T → B} {P : Mode → List ℕ → B → Type 0}
-    (old new : ValuesLeft) (tag : TagValue) (r : Result (Option T) (DecodeError E)) → EachTook rest g op f P → RanOptCases rest g op old tag r new
+    (old new : ValuesLeft) (tag : TagValue) (r : Result (Option T) (DecodeError E)) → EachTook rest g op f P → ClosureReadsOptCases rest g op old tag r new
     → IfOk r (λ o. IfSome o (λ x. TookOctets f (λ m. Wraps m tag (P m)) old x new))
 opt_cases old new tag (Ok (Some x)) each h = inside_took each h
 opt_cases old new tag (Ok None) each h = tt
 opt_cases old new tag (Err e) each h = tt
 
 pub opt_took : {F S T B E : Type 0} {rest : S → List ℕ} {g : Reader F (Constructed S) T E} {op : F} {f : T → B} {P : Mode → List ℕ → B → Type 0}
-    {old new : ValuesLeft} {tag : TagValue} {r : Result (Option T) (DecodeError E)} → EachTook rest g op f P → RanOpt rest g op old tag r new
+    {old new : ValuesLeft} {tag : TagValue} {r : Result (Option T) (DecodeError E)} → EachTook rest g op f P → ClosureReadsOpt rest g op old tag r new
     → IfOk r (λ o. IfSome o (λ x. TookOctets f (λ m. Wraps m tag (P m)) old x new))
 opt_took {old = old} {new} {tag} {r} each h = opt_cases old new tag r each h.cases
 

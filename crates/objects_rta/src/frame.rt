@@ -14,7 +14,7 @@ use crate::lists::take_opt_lists;
 use crate::signers::take_signers;
 use bcder::Captured;
 use certs_cert::decode::{Constructed, DecodeError, Source};
-use certs_cert::{Cert, DigestAlgorithm, Tag, beside};
+use certs_cert::{Cert, DigestAlgorithm, Tag, with_value};
 use objects_cms::oid::SIGNED_DATA;
 use objects_cms::signed::SignerInfo;
 use objects_cms::signed::content::{Typed, take_content_info};
@@ -45,8 +45,8 @@ fn take_carried<S: Source>(
         (here S.rest cons.old) c (here S.rest cons.new)) }
 {
     let certs = take_certificates(alloc, cons)?;
-    let (certs, lists) = beside(certs, take_opt_lists(alloc, cons))?;
-    let (both, signers) = beside((certs, lists), take_signers(alloc, cons))?;
+    let (certs, lists) = with_value(certs, take_opt_lists(alloc, cons))?;
+    let (both, signers) = with_value((certs, lists), take_signers(alloc, cons))?;
     Ok(Carried {
         certs: both.0,
         lists: both.1,
@@ -67,7 +67,7 @@ fn take_fields<S: Source>(
     let version = cons.skip_u8_if(VERSION)?;
     let digest = DigestAlgorithm::take_set_from(cons)?;
     let typed = take_content_info(alloc, cons)?;
-    let (typed, carried) = beside(typed, take_carried(alloc, cons))?;
+    let (typed, carried) = with_value(typed, take_carried(alloc, cons))?;
     Ok((typed, carried))
 }
 

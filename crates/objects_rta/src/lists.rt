@@ -3,7 +3,7 @@
 ghost use Rattle.std.specs.Prelude.{◌≡◌, IfOk, IfSome, OnErr, Some, true};
 ghost use Rattle.std.specs.Option.{option_map};
 ghost use Rattle.objects_cms.specs.bcder_tree.Tags.{context};
-ghost use Rattle.objects_cms.specs.bcder_content.Exact.{ReadsAs, ReadsOptAs};
+ghost use Rattle.objects_cms.specs.bcder_content.Exact.{ReadsOptAs};
 ghost use Rattle.objects_cms.specs.bcder_content.Captures.{rest_of};
 ghost use Rattle.objects_cms.specs.bcder_content.Grammar.{Inside, Many};
 ghost use Rattle.objects_cms.specs.bcder_content.Here.{here};

@@ -7,9 +7,9 @@
 ghost use Rattle.std.specs.Prelude.{◌≡◌, ◌↔◌, All, IsTrue, OnErr, OnOk, map, true};
 ghost use Rattle.objects_cms.specs.bcder_content.Captures.{rest_of};
 ghost use Rattle.objects_cms.specs.bcder_content.Here.{here};
-ghost use Rattle.objects_cms.specs.bcder_content.Ran.{Decoded, fresh};
+ghost use Rattle.objects_cms.specs.bcder_content.ClosureReads.{Decoded, fresh};
 ghost use Rattle.objects_cms.specs.bcder_tree.declared.mode.Mode.TheVariants.{Der};
-ghost use Rattle.objects_cms.specs.objects_payload.ObjectText.{mode, signer_of};
+ghost use Rattle.objects_cms.specs.objects_payload.ObjectText.{signer_of};
 ghost use Rattle.objects_cms.specs.Decoded.{ReadsOctets};
 ghost use Rattle.objects_cms.specs.Signer.{signer_fields};
 ghost use Rattle.objects_rta.specs.MultiFrame.{DecodesMulti, MakesMulti, SignsAll, multi_with};
@@ -22,6 +22,7 @@ use certs_cert::decode::{Constructed, ContentError, Decode, DecodeError, IntoSou
 use certs_cert::{Cert, Mode, OctetString, Oid};
 use certs_crl::Crl;
 use objects_cms::signed::SignerInfo;
+use objects_cms::signed::object::mode_of;
 use std::alloc::Global;
 use std::convert::Infallible;
 use std::marker::Model;
@@ -52,13 +53,6 @@ impl Model for MultiSignedObject {
       crls = o.crls.items;
       signers = map signer_of (map signer_fields o.signers.items);
     } };
-}
-
-// Strict is DER, else BER.
-fn mode_of(strict: bool) -> Mode
-    ensures { result ≡ mode strict }
-{
-    if strict { Mode::Der } else { Mode::Ber }
 }
 
 // Whether the signer's attribute for the content's type has that type (RFC 6488 2.1.6.4.1).

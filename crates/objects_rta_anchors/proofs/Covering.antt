@@ -1,5 +1,5 @@
 -- What paths cover, gathered path by path.
-use Rattle.std.proofs.Common.{◌≡◌, ℕ, ◌+◌, ◌<◌, ◌≤◌, List, [], ◌∷◌, ◌++◌, Option, Some, None, length, refl, sym, ap, ◌∙◌, subst, inl, inr, arith}
+use Rattle.std.proofs.Common.{◌≡◌, ℕ, ◌+◌, ◌<◌, ◌≤◌, List, [], ◌∷◌, ◌++◌, Some, None, length, refl, sym, ap, ◌∙◌, subst, inl, inr, arith}
 use Rattle.std.specs.Prelude.{◌↔◌, ◌⊎◌}
 use Rattle.std.specs.List.{slice_get}
 use Rattle.std.proofs.lemmas.Bool.Decides.{eqb_tells}
@@ -17,6 +17,8 @@ use Rattle.objects_rta_anchors.specs.declared.anchor.Anchor.TheVariants.{Issuer,
 use Rattle.objects_rta_anchors.specs.Beginnings.{Begins, IsGrounded}
 use Rattle.objects_rta_anchors.specs.Coverage.{Covers, CoversAt, KeepsAt}
 use Rattle.objects_rta_anchors.specs.Ends.{IsKept}
+use Rattle.objects_rta_anchors.proofs.Marking.{before}
+use Rattle.objects_rta_valid.proofs.Standing.{none_some}
 
 in_split : (xs ys : List Run) (n : ℕ) → InRuns (xs ++ ys) n → InRuns xs n ⊎ InRuns ys n
 in_split [] ys n i = inr i
@@ -47,9 +49,6 @@ below_more P i n k lt p = elim (eqb_tells i k) [
   | inl same ↦ inr (subst (λ (j : ℕ). P j n) (sym same.1) p)
   | inr other ↦ inl (k, before i k lt other.1, p)
 ]
-  where
-    before : (i k : ℕ) → k < i + 1 → (i ≡ k → ⊥) → k < i
-    before i k h n = omega (arith, n)
 
 pub gathered_more : (P : ℕ → ℕ → Type 0) (i : ℕ) (all held news : List Run) → news ≡ all ++ held → ((n : ℕ) → InRuns held n ↔ P i n) → GatheredBelow P i all → GatheredBelow P (i + 1) news
 gathered_more P i all held news e h g = λ n. (
@@ -94,9 +93,6 @@ keep_told certs place c kind choice held kept at e h n = (
     s.1,
   )),
 )
-
-none_some : {X : Type 0} (o : Option X) (x : X) → o ≡ None → o ≡ Some x → ⊥
-none_some o x e f = cc
 
 pub keep_none : (certs : List CertValue) (place : ℕ) (kind : Kind) (held kept : List Run) → slice_get certs place ≡ None → ((n : ℕ) → InRuns kept n → ⊥)
     → (n : ℕ) → InRuns kept n ↔ (KeepsAt certs kind n place × InRuns held n)

@@ -12,6 +12,8 @@ use Rattle.objects_rta_anchors.specs.declared.anchor.Anchor.TheVariants.{Open}
 use Rattle.objects_rta_anchors.specs.Anchors.{AnchoredValue}
 use Rattle.objects_rta_anchors.specs.Coverage.{AreAnchored, CoversAt, Holds, IsCovered, SomeCovers, stated_of}
 use Rattle.objects_rta_anchors.specs.Ends.{IsKept}
+use Rattle.objects_rta_anchors.specs.Lent.{SignerCovers}
+use Rattle.objects_rta_anchors.specs.declared.covered.Anchored.{Anchored}
 
 -- By lists that are lent.
 pub kept_of : (given certs : List CertValue) (paths lists : List (List ℕ)) (lent ends : List ℕ) (told anchors : List Anchor) → given ≡ certs → paths ≡ lists → lent ≡ ends → told ≡ anchors
@@ -26,11 +28,11 @@ covers_of given certs lent issuers kind n paths lists told anchors signer e f g 
     subst (λ (xs : List CertValue). CoversAt xs issuers kind n lists anchors signer) e (subst (λ (rs : List ResourceCertValue). CoversAt given rs kind n lists anchors signer) f
     (subst (λ (ps : List (List ℕ)). CoversAt given lent kind n ps anchors signer) g (subst (λ (ws : List Anchor). CoversAt given lent kind n paths ws signer) h s)))
 
-pub covered_by : (v : AnchoredValue) (kind : Kind) (answer : Bool) (choice : Choice) (held : List Run) (given : List CertValue) (lent : List ResourceCertValue) (paths : List (List ℕ)) (told : List Anchor)
-    → given ≡ v.rta.signed.certs → lent ≡ v.issuers → paths ≡ v.paths → told ≡ v.anchors → choice ≡ stated_of v.rta.content.resources kind
-    → (IsTrue answer ↔ ((n : ℕ) → Lists choice n ↔ InRuns held n)) → ((n : ℕ) → InRuns held n ↔ ((signer : ℕ) × CoversAt given lent kind n paths told signer))
+pub covered_by : (v : AnchoredValue) (kind : Kind) (answer : Bool) (choice : Choice) (held : List Run) (a : Anchored)
+    → a.certs.now ≡ v.rta.signed.certs → a.issuers.now ≡ v.issuers → a.paths.now.paths ≡ v.paths → a.anchors.now ≡ v.anchors → choice ≡ stated_of v.rta.content.resources kind
+    → (IsTrue answer ↔ ((n : ℕ) → Lists choice n ↔ InRuns held n)) → ((n : ℕ) → InRuns held n ↔ ((signer : ℕ) × SignerCovers a kind n signer))
     → (IsTrue answer ↔ IsCovered v kind)
-covered_by v kind answer choice held given lent paths told e f g h s listed gathered = (
+covered_by v kind answer choice held a e f g h s listed gathered = (
   (λ t n. (
     (λ l. to n ((gathered n).0 (((listed.0 t) n).0 (subst (λ (x : Choice). Lists x n) (sym s) l)))),
     (λ c. subst (λ (x : Choice). Lists x n) s (((listed.0 t) n).1 ((gathered n).1 (from n c)))),
@@ -41,11 +43,11 @@ covered_by v kind answer choice held given lent paths told e f g h s listed gath
   ))),
 )
   where
-    to : (n : ℕ) → ((signer : ℕ) × CoversAt given lent kind n paths told signer) → SomeCovers v kind n
-    to n c = (c.0, covers_of given v.rta.signed.certs lent v.issuers kind n paths v.paths told v.anchors c.0 e f g h c.1)
+    to : (n : ℕ) → ((signer : ℕ) × SignerCovers a kind n signer) → SomeCovers v kind n
+    to n c = (c.0, covers_of a.certs.now v.rta.signed.certs a.issuers.now v.issuers kind n a.paths.now.paths v.paths a.anchors.now v.anchors c.0 e f g h c.1)
 
-    from : (n : ℕ) → SomeCovers v kind n → ((signer : ℕ) × CoversAt given lent kind n paths told signer)
-    from n c = (c.0, covers_of v.rta.signed.certs given v.issuers lent kind n v.paths paths v.anchors told c.0 (sym e) (sym f) (sym g) (sym h) c.1)
+    from : (n : ℕ) → SomeCovers v kind n → ((signer : ℕ) × SignerCovers a kind n signer)
+    from n c = (c.0, covers_of v.rta.signed.certs a.certs.now v.issuers a.issuers.now kind n v.paths a.paths.now.paths v.anchors a.anchors.now c.0 (sym e) (sym f) (sym g) (sym h) c.1)
 
 pub all_kinds : (v : AnchoredValue) (v4 v6 asn answer : Bool) → (IsTrue answer ↔ (IsTrue v4 × IsTrue v6 × IsTrue asn)) → (IsTrue v4 ↔ IsCovered v Ipv4) → (IsTrue v6 ↔ IsCovered v Ipv6) → (IsTrue asn ↔ IsCovered v As)
     → (IsTrue answer ↔ ((kind : Kind) → IsCovered v kind))

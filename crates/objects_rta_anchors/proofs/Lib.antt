@@ -1,4 +1,3 @@
-mod Standing
 mod Marking
 mod Ending
 mod Opening

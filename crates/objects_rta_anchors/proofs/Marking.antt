@@ -1,5 +1,5 @@
 -- Paths that become anchored, one after the other.
-use Rattle.std.proofs.Common.{◌≡◌, ℕ, ◌+◌, ◌<◌, ◌≤◌, zero, suc, Bool, true, false, List, [], ◌∷◌, Option, Some, length, set, refl, sym, ap, ◌∙◌, subst, inl, inr, arith}
+use Rattle.std.proofs.Common.{◌≡◌, ℕ, ◌+◌, ◌<◌, ◌≤◌, zero, suc, Bool, true, false, List, [], ◌∷◌, Option, Some, length, set, refl, sym, ◌∙◌, subst, inl, inr, arith}
 use Rattle.std.specs.Prelude.{◌↔◌, ◌⊎◌, IsTrue}
 use Rattle.std.specs.List.{slice_get}
 use Rattle.std.proofs.lemmas.Bool.Decides.{eqb_tells}
@@ -9,20 +9,9 @@ use Rattle.std.proofs.Math.ListN.{length-set}
 use Rattle.objects_rta_anchors.specs.declared.anchor.Anchor.{Anchor}
 use Rattle.objects_rta_anchors.specs.declared.anchor.Anchor.TheVariants.{Open}
 use Rattle.objects_rta_valid.specs.certs_extension.Cert.{CertValue}
+use Rattle.objects_rta_valid.proofs.Tables.{at_set, beside_set}
 use Rattle.objects_rta_anchors.specs.Anchors.{AreMarked, IsMarked}
 use Rattle.objects_rta_anchors.specs.Ends.{IsOpenAt}
-
-at_set : {X : Type 0} (xs : List X) (i : ℕ) (x : X) → i < length xs → slice_get (set xs i x) i ≡ Some x
-at_set [] i x h = absurd (omega arith)
-at_set (y ∷ ys) zero x h = refl
-at_set (y ∷ ys) (suc i) x h = at_set ys i x (omega arith)
-
-beside_set : {X : Type 0} (xs : List X) (i k : ℕ) (x : X) → (i ≡ k → ⊥) → slice_get (set xs i x) k ≡ slice_get xs k
-beside_set [] i k x h = refl
-beside_set (y ∷ ys) zero zero x h = absurd (h refl)
-beside_set (y ∷ ys) zero (suc k) x h = refl
-beside_set (y ∷ ys) (suc i) zero x h = refl
-beside_set (y ∷ ys) (suc i) (suc k) x h = beside_set ys i k x (λ e. h (ap suc e))
 
 -- Lists that have the same at each place are the same.
 pub same_lists : {X : Type 0} (xs ys : List X) → length xs ≡ length ys → ((k : ℕ) → slice_get xs k ≡ slice_get ys k) → xs ≡ ys
@@ -43,7 +32,7 @@ marked_from P by i olds none = record { long = refl; ahead = λ k h. refl; each 
 pub marked_none : (P : ℕ → Type 0) (by : Anchor) (olds : List Anchor) → MarkedBelow P by 0 olds olds
 marked_none P by olds = marked_from P by 0 olds (λ k h p. omega arith)
 
-before : (i k : ℕ) → k < i + 1 → (i ≡ k → ⊥) → k < i
+pub before : (i k : ℕ) → k < i + 1 → (i ≡ k → ⊥) → k < i
 before i k h n = omega (arith, n)
 
 pub marked_yes : (P : ℕ → Type 0) (by : Anchor) (i : ℕ) (olds news : List Anchor) → i < length olds → P i → MarkedBelow P by i olds news → MarkedBelow P by (i + 1) olds (set news i by)
@@ -107,9 +96,6 @@ found_no P i found none h = (
     | inr other ↦ h.1 (s.0, before i s.0 s.1 other.1, s.2)
   ]),
 )
-  where
-    before : (i k : ℕ) → k < i + 1 → (i ≡ k → ⊥) → k < i
-    before i k h n = omega (arith, n)
 
 pub found_all : (P : ℕ → Type 0) (i n : ℕ) (found : Bool) → ((k : ℕ) → P k → k < n) → n ≤ i → FoundBelow P i found → (IsTrue found ↔ ((k : ℕ) × P k))
 found_all P i n found inside h f = (

@@ -2,3 +2,4 @@ pub mod Anchors
 pub mod Coverage
 pub mod Ends
 pub mod Beginnings
+pub mod Lent

@@ -9,6 +9,7 @@ ghost use Rattle.objects_rta_anchors.specs.declared.anchor.Anchor.TheVariants.{I
 
 use crate::accessors::cert_at;
 use crate::anchor::{Anchor, is_open_at};
+use crate::ends::Ends;
 use objects_rta_valid::{Cert, ResourceCert, Verifier};
 
 // Whether the certificate's key identifier of its issuer is the authority's.
@@ -79,100 +80,103 @@ fn stands_below<V: Verifier>(
 
 // Whether it holds of the last certificate of that signer's path. The verifier is asked once, at most.
 fn ends_below<V: Verifier>(
-    certs: &[Cert],
-    ends: &[usize],
+    ends: &Ends<'_>,
     signer: usize,
     ca: &ResourceCert,
     verifier: &mut V,
 ) -> bool
-    ensures below { IsTrue result
-        ↔ EndsAt (IsBelow (V.says verifier.old) ca.now.holder.cert) certs.now ends.now signer }
+    ensures below { IsTrue result ↔ EndsAt (IsBelow (V.says verifier.old) ca.now.holder.cert)
+        ends.now.certs.now ends.now.places.now signer }
     ensures same { V.says verifier.new ≡ V.says verifier.old }
     ensures asked { V.count verifier.new ≤ V.count verifier.old + 1 }
 {
-    match ends.get(signer) {
-        Some(end) => stands_below(certs, *end, ca, verifier),
+    match ends.places.get(signer) {
+        Some(end) => stands_below(ends.certs, *end, ca, verifier),
         None => false,
     }
 }
 
 // Whether that path is open, and it holds of its last certificate. The verifier is asked once, at most.
 fn is_open_below<V: Verifier>(
-    certs: &[Cert],
-    ends: &[usize],
+    ends: &Ends<'_>,
     anchors: &[Anchor],
     signer: usize,
     ca: &ResourceCert,
     verifier: &mut V,
 ) -> bool
     ensures below { IsTrue result ↔ IsOpenAt (IsBelow (V.says verifier.old) ca.now.holder.cert)
-        certs.now ends.now anchors.now signer }
+        ends.now.certs.now ends.now.places.now anchors.now signer }
     ensures same { V.says verifier.new ≡ V.says verifier.old }
     ensures asked { V.count verifier.new ≤ V.count verifier.old + 1 }
 {
     if !is_open_at(anchors, signer) {
         return false;
     }
-    ends_below(certs, ends, signer, ca, verifier)
+    ends_below(ends, signer, ca, verifier)
 }
 
 /// The first signer whose path is open and ends with a certificate below the authority. The verifier is asked at most once for
 /// each path up to there.
 pub(crate) fn first_below<V: Verifier>(
-    certs: &[Cert],
-    ends: &[usize],
+    ends: &Ends<'_>,
     anchors: &[Anchor],
     ca: &ResourceCert,
     verifier: &mut V,
 ) -> Option<usize>
     ensures below { MatchOption result
         ((signer : ℕ) → IsOpenAt (IsBelow (V.says verifier.old) ca.now.holder.cert)
-        certs.now ends.now anchors.now signer → ⊥)
+        ends.now.certs.now ends.now.places.now anchors.now signer → ⊥)
         (IsOpenAt (IsBelow (V.says verifier.old) ca.now.holder.cert)
-        certs.now ends.now anchors.now) }
+        ends.now.certs.now ends.now.places.now anchors.now) }
     ensures before { MatchOption result ⊤ (λ first. (signer : ℕ) → signer < first
         → IsOpenAt (IsBelow (V.says verifier.old) ca.now.holder.cert)
-        certs.now ends.now anchors.now signer → ⊥) }
+        ends.now.certs.now ends.now.places.now anchors.now signer → ⊥) }
     ensures same { V.says verifier.new ≡ V.says verifier.old }
     ensures asked { MatchOption result
         (V.count verifier.new ≤ V.count verifier.old + length anchors.now)
         (λ first. V.count verifier.new ≤ V.count verifier.old + first + 1) }
 {
     for signer in 0..anchors.len() {
-        if is_open_below(certs, ends, anchors, signer, ca, verifier) {
+        if is_open_below(ends, anchors, signer, ca, verifier) {
             return Some(signer);
         }
     }
     None
 }
 
-/// The open paths that end with certificates below the authority become anchored by that number; `first` is the first of them.
-/// The verifier is asked at most once for each path behind it.
+/// An authority that is supplied, and its number, from 0 on.
+#[derive(Drop)]
+pub(crate) struct Supplied<'a> {
+    pub(crate) ca: &'a ResourceCert,
+    pub(crate) number: usize,
+}
+
+/// The open paths that end with certificates below the supplied authority become anchored by its number; `first` is the first of
+/// them. The verifier is asked at most once for each path behind it.
 pub(crate) fn mark_issuer<V: Verifier>(
-    certs: &[Cert],
-    ends: &[usize],
+    ends: &Ends<'_>,
     anchors: &mut Vec<Anchor>,
     first: usize,
-    number: usize,
-    ca: &ResourceCert,
+    supplied: &Supplied<'_>,
     verifier: &mut V,
 )
-    requires here { IsOpenAt (IsBelow (V.says verifier.old) ca.now.holder.cert)
-        certs.now ends.now anchors.old.items first }
+    requires here { IsOpenAt (IsBelow (V.says verifier.old) supplied.now.ca.now.holder.cert)
+        ends.now.certs.now ends.now.places.now anchors.old.items first }
     requires before { (signer : ℕ) → signer < first
-        → IsOpenAt (IsBelow (V.says verifier.old) ca.now.holder.cert)
-        certs.now ends.now anchors.old.items signer → ⊥ }
-    ensures marked { AreMarked (IsOpenAt (IsBelow (V.says verifier.old) ca.now.holder.cert)
-        certs.now ends.now anchors.old.items) (Issuer number)
-        anchors.old.items anchors.new.items }
+        → IsOpenAt (IsBelow (V.says verifier.old) supplied.now.ca.now.holder.cert)
+        ends.now.certs.now ends.now.places.now anchors.old.items signer → ⊥ }
+    ensures marked { AreMarked
+        (IsOpenAt (IsBelow (V.says verifier.old) supplied.now.ca.now.holder.cert)
+        ends.now.certs.now ends.now.places.now anchors.old.items)
+        (Issuer supplied.now.number) anchors.old.items anchors.new.items }
     ensures same { V.says verifier.new ≡ V.says verifier.old }
     ensures asked { V.count verifier.new + first + 1
         ≤ V.count verifier.old + length anchors.old.items }
 {
-    anchors[first] = Anchor::Issuer(number);
+    anchors[first] = Anchor::Issuer(supplied.number);
     for signer in first + 1..anchors.len() {
-        if is_open_below(certs, ends, anchors.as_slice(), signer, ca, verifier) {
-            anchors[signer] = Anchor::Issuer(number);
+        if is_open_below(ends, anchors.as_slice(), signer, supplied.ca, verifier) {
+            anchors[signer] = Anchor::Issuer(supplied.number);
         }
     }
 }

@@ -6,9 +6,9 @@ ghost use Rattle.objects_rta_valid.specs.certs_extension.Kinds.{claim};
 ghost use Rattle.objects_rta_valid.specs.certs_extension.Verified.{held_by};
 ghost use Rattle.objects_rta_valid.specs.resources_chain.Sets.{InRuns};
 ghost use Rattle.objects_rta_valid.specs.Places.{Stands};
-ghost use Rattle.objects_rta_anchors.specs.Beginnings.{Begins, IsGrounded, ListsAt, kind_of};
-ghost use Rattle.objects_rta_anchors.specs.Coverage.{Covers, CoversAt, KeepsAt};
-ghost use Rattle.objects_rta_anchors.specs.Ends.{IsKept};
+ghost use Rattle.objects_rta_anchors.specs.Beginnings.{Begins, ListsAt, kind_of};
+ghost use Rattle.objects_rta_anchors.specs.Coverage.{KeepsAt};
+ghost use Rattle.objects_rta_anchors.specs.Lent.{AreKept, SignerCovers};
 
 use crate::accessors::{cert_at, end_at};
 use crate::anchor::{Anchor, anchor_at};
@@ -16,6 +16,17 @@ use crate::held::{Family, add_ip, keep_ip, listed_ip, no_ip};
 use objects_rta_valid::{Cert, PathPlaces, Paths, ResourceCert};
 use resources_ip::{IpBlocks, IpBlocksBuilder, IpResources};
 use std::alloc::{AllocError, Global};
+
+/// The paths of a valid attestation, where they end and how they are anchored, with the certificates that they go through and
+/// the authorities that were supplied.
+#[derive(Drop)]
+pub(crate) struct Anchored<'a> {
+    pub(crate) certs: &'a [Cert],
+    pub(crate) issuers: &'a [ResourceCert],
+    pub(crate) paths: &'a Paths,
+    pub(crate) ends: &'a [usize],
+    pub(crate) anchors: &'a [Anchor],
+}
 
 // What a certificate says of the family.
 fn ip_of(cert: &Cert, family: Family) -> &IpResources
@@ -134,65 +145,39 @@ fn begin_ip(
     }
 }
 
-// The addresses that a path covers.
+// The addresses that the path of that signer covers.
 fn covered_ip(
     alloc: Global,
-    certs: &[Cert],
-    issuers: &[ResourceCert],
-    path: PathPlaces<'_>,
-    last: usize,
-    anchor: Anchor,
-    family: Family,
-) -> Result<IpBlocks, AllocError>
-    requires { IsGrounded certs.now path last anchor }
-    ensures { IfOk result (λ set. (n : ℕ) → InRuns set n
-        ↔ Covers certs.now issuers.now (kind_of family) n path.entry anchor) }
-{
-    let held = begin_ip(certs, issuers, anchor, last, family)?;
-    let kept = along_ip(alloc, certs, path, held, family)?;
-    Ok(kept)
-}
-
-// The addresses that the path of that signer covers.
-fn covered_ip_at(
-    alloc: Global,
-    certs: &[Cert],
-    issuers: &[ResourceCert],
-    paths: &Paths,
-    ends: &[usize],
-    anchors: &[Anchor],
+    anchored: &Anchored<'_>,
     signer: usize,
     family: Family,
 ) -> Result<IpBlocks, AllocError>
-    requires kept { IsKept certs.now paths.now.paths ends.now anchors.now }
-    requires inside { signer < length paths.now.paths }
-    ensures { IfOk result (λ set. (n : ℕ) → InRuns set n
-        ↔ CoversAt certs.now issuers.now (kind_of family) n paths.now.paths anchors.now signer) }
+    requires kept { AreKept anchored.now }
+    requires inside { signer < length anchored.now.paths.now.paths }
+    ensures { IfOk result (λ set. (n : ℕ)
+        → InRuns set n ↔ SignerCovers anchored.now (kind_of family) n signer) }
 {
-    let last = end_at(ends, signer);
-    let anchor = anchor_at(anchors, signer);
-    let path = paths.path(signer);
-    let set = covered_ip(alloc, certs, issuers, path, last, anchor, family)?;
-    Ok(set)
+    let last = end_at(anchored.ends, signer);
+    let anchor = anchor_at(anchored.anchors, signer);
+    let path = anchored.paths.path(signer);
+    let held = begin_ip(anchored.certs, anchored.issuers, anchor, last, family)?;
+    let kept = along_ip(alloc, anchored.certs, path, held, family)?;
+    Ok(kept)
 }
 
 /// The addresses that some path covers.
 pub(crate) fn gather_ip(
     alloc: Global,
-    certs: &[Cert],
-    issuers: &[ResourceCert],
-    paths: &Paths,
-    ends: &[usize],
-    anchors: &[Anchor],
+    anchored: &Anchored<'_>,
     family: Family,
 ) -> Result<IpBlocks, AllocError>
-    requires { IsKept certs.now paths.now.paths ends.now anchors.now }
-    ensures { IfOk result (λ set. (n : ℕ) → InRuns set n ↔ ((signer : ℕ)
-        × CoversAt certs.now issuers.now (kind_of family) n paths.now.paths anchors.now signer)) }
+    requires { AreKept anchored.now }
+    ensures { IfOk result (λ set. (n : ℕ) → InRuns set n
+        ↔ ((signer : ℕ) × SignerCovers anchored.now (kind_of family) n signer)) }
 {
     let mut all = IpBlocksBuilder::new(alloc);
-    for signer in 0..paths.len() {
-        let covered = covered_ip_at(alloc, certs, issuers, paths, ends, anchors, signer, family)?;
+    for signer in 0..anchored.paths.len() {
+        let covered = covered_ip(alloc, anchored, signer, family)?;
         add_ip(&mut all, &covered)?;
     }
     let set = all.finalize(alloc)?;

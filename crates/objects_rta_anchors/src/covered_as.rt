@@ -1,20 +1,20 @@
 //! The AS numbers that paths cover.
 
-ghost use Rattle.std.specs.Prelude.{◌≡◌, ◌↔◌, ℕ, IfOk, ◌<◌, length};
+ghost use Rattle.std.specs.Prelude.{◌↔◌, ℕ, IfOk, ◌<◌, length};
 ghost use Rattle.objects_rta_valid.specs.certs_basics.Lists.{Each};
 ghost use Rattle.objects_rta_valid.specs.certs_extension.Kinds.{As};
 ghost use Rattle.objects_rta_valid.specs.certs_extension.Verified.{held_by};
 ghost use Rattle.objects_rta_valid.specs.resources_chain.Sets.{InRuns};
 ghost use Rattle.objects_rta_valid.specs.Places.{Stands};
-ghost use Rattle.objects_rta_anchors.specs.Beginnings.{Begins, IsGrounded, ListsAt};
-ghost use Rattle.objects_rta_anchors.specs.Coverage.{Covers, CoversAt, KeepsAt};
-ghost use Rattle.objects_rta_anchors.specs.Ends.{IsKept};
+ghost use Rattle.objects_rta_anchors.specs.Beginnings.{Begins, ListsAt};
+ghost use Rattle.objects_rta_anchors.specs.Coverage.{KeepsAt};
+ghost use Rattle.objects_rta_anchors.specs.Lent.{AreKept, SignerCovers};
 
 use crate::accessors::{cert_at, end_at};
 use crate::anchor::{Anchor, anchor_at};
-use crate::covered::issuer_at;
+use crate::covered::{Anchored, issuer_at};
 use crate::held::{add_as, keep_as, listed_as, no_as};
-use objects_rta_valid::{Cert, PathPlaces, Paths, ResourceCert};
+use objects_rta_valid::{Cert, PathPlaces, ResourceCert};
 use resources_as::{AsBlocks, AsBlocksBuilder};
 use std::alloc::{AllocError, Global};
 
@@ -100,62 +100,30 @@ fn begin_as(
     }
 }
 
-// The AS numbers that a path covers.
-fn covered_as(
-    alloc: Global,
-    certs: &[Cert],
-    issuers: &[ResourceCert],
-    path: PathPlaces<'_>,
-    last: usize,
-    anchor: Anchor,
-) -> Result<AsBlocks, AllocError>
-    requires { IsGrounded certs.now path last anchor }
-    ensures { IfOk result (λ set. (n : ℕ) → InRuns set n
-        ↔ Covers certs.now issuers.now As n path.entry anchor) }
+// The AS numbers that the path of that signer covers.
+fn covered_as(alloc: Global, anchored: &Anchored<'_>, signer: usize) -> Result<AsBlocks, AllocError>
+    requires kept { AreKept anchored.now }
+    requires inside { signer < length anchored.now.paths.now.paths }
+    ensures { IfOk result (λ set. (n : ℕ)
+        → InRuns set n ↔ SignerCovers anchored.now As n signer) }
 {
-    let held = begin_as(certs, issuers, anchor, last)?;
-    let kept = along_as(alloc, certs, path, held)?;
+    let last = end_at(anchored.ends, signer);
+    let anchor = anchor_at(anchored.anchors, signer);
+    let path = anchored.paths.path(signer);
+    let held = begin_as(anchored.certs, anchored.issuers, anchor, last)?;
+    let kept = along_as(alloc, anchored.certs, path, held)?;
     Ok(kept)
 }
 
-// The AS numbers that the path of that signer covers.
-fn covered_as_at(
-    alloc: Global,
-    certs: &[Cert],
-    issuers: &[ResourceCert],
-    paths: &Paths,
-    ends: &[usize],
-    anchors: &[Anchor],
-    signer: usize,
-) -> Result<AsBlocks, AllocError>
-    requires kept { IsKept certs.now paths.now.paths ends.now anchors.now }
-    requires inside { signer < length paths.now.paths }
-    ensures { IfOk result (λ set. (n : ℕ) → InRuns set n
-        ↔ CoversAt certs.now issuers.now As n paths.now.paths anchors.now signer) }
-{
-    let last = end_at(ends, signer);
-    let anchor = anchor_at(anchors, signer);
-    let path = paths.path(signer);
-    let set = covered_as(alloc, certs, issuers, path, last, anchor)?;
-    Ok(set)
-}
-
 /// The AS numbers that some path covers.
-pub(crate) fn gather_as(
-    alloc: Global,
-    certs: &[Cert],
-    issuers: &[ResourceCert],
-    paths: &Paths,
-    ends: &[usize],
-    anchors: &[Anchor],
-) -> Result<AsBlocks, AllocError>
-    requires { IsKept certs.now paths.now.paths ends.now anchors.now }
-    ensures { IfOk result (λ set. (n : ℕ) → InRuns set n ↔ ((signer : ℕ)
-        × CoversAt certs.now issuers.now As n paths.now.paths anchors.now signer)) }
+pub(crate) fn gather_as(alloc: Global, anchored: &Anchored<'_>) -> Result<AsBlocks, AllocError>
+    requires { AreKept anchored.now }
+    ensures { IfOk result (λ set. (n : ℕ) → InRuns set n
+        ↔ ((signer : ℕ) × SignerCovers anchored.now As n signer)) }
 {
     let mut all = AsBlocksBuilder::new(alloc);
-    for signer in 0..paths.len() {
-        let covered = covered_as_at(alloc, certs, issuers, paths, ends, anchors, signer)?;
+    for signer in 0..anchored.paths.len() {
+        let covered = covered_as(alloc, anchored, signer)?;
         add_as(&mut all, &covered)?;
     }
     let set = all.finalize(alloc)?;

@@ -4,8 +4,15 @@ ghost use Rattle.std.specs.Prelude.{◌≡◌, ◌≢◌, ◌∷◌, [], IfOk};
 ghost use Rattle.objects_rta_valid.specs.Places.{last_of};
 ghost use Rattle.objects_rta_anchors.specs.Ends.{AreEnds};
 
-use objects_rta_valid::{PathPlaces, Paths};
+use objects_rta_valid::{Cert, PathPlaces, Paths};
 use std::alloc::{AllocError, Global};
+
+/// The certificates that paths go through, and by signer the places where these end.
+#[derive(Drop)]
+pub(crate) struct Ends<'a> {
+    pub(crate) certs: &'a [Cert],
+    pub(crate) places: &'a [usize],
+}
 
 // The last place of a path, which has one.
 fn last_place(path: PathPlaces<'_>) -> usize

@@ -1,6 +1,6 @@
 //! Paths that a locator anchors.
 
-ghost use Rattle.std.specs.Prelude.{◌≡◌, ◌↔◌, ℕ, IsTrue, length};
+ghost use Rattle.std.specs.Prelude.{◌↔◌, ℕ, IsTrue};
 ghost use Rattle.objects_rta_valid.specs.Places.{Stands};
 ghost use Rattle.objects_rta_anchors.specs.Anchors.{AreMarked, IsAtLocator};
 ghost use Rattle.objects_rta_anchors.specs.Ends.{EndsAt, IsOpenAt};
@@ -8,6 +8,7 @@ ghost use Rattle.objects_rta_anchors.specs.declared.anchor.Anchor.TheVariants.{L
 
 use crate::accessors::cert_at;
 use crate::anchor::{Anchor, is_open_at};
+use crate::ends::Ends;
 use objects_payload::locator::Tal;
 use objects_rta_valid::Cert;
 
@@ -30,39 +31,35 @@ fn stands_at_locator(certs: &[Cert], place: usize, tal: &Tal) -> bool
 }
 
 // Whether it holds of the last certificate of that signer's path.
-fn ends_at_locator(certs: &[Cert], ends: &[usize], signer: usize, tal: &Tal) -> bool
-    ensures { IsTrue result ↔ EndsAt (IsAtLocator tal.now.key) certs.now ends.now signer }
+fn ends_at_locator(ends: &Ends<'_>, signer: usize, tal: &Tal) -> bool
+    ensures { IsTrue result ↔ EndsAt (IsAtLocator tal.now.key)
+        ends.now.certs.now ends.now.places.now signer }
 {
-    match ends.get(signer) {
-        Some(end) => stands_at_locator(certs, *end, tal),
+    match ends.places.get(signer) {
+        Some(end) => stands_at_locator(ends.certs, *end, tal),
         None => false,
     }
 }
 
 // Whether that path is open, and it holds of its last certificate.
-fn is_open_end(certs: &[Cert], ends: &[usize], anchors: &[Anchor], signer: usize, tal: &Tal) -> bool
-    ensures { IsTrue result
-        ↔ IsOpenAt (IsAtLocator tal.now.key) certs.now ends.now anchors.now signer }
+fn is_open_end(ends: &Ends<'_>, anchors: &[Anchor], signer: usize, tal: &Tal) -> bool
+    ensures { IsTrue result ↔ IsOpenAt (IsAtLocator tal.now.key)
+        ends.now.certs.now ends.now.places.now anchors.now signer }
 {
-    is_open_at(anchors, signer) && ends_at_locator(certs, ends, signer, tal)
+    is_open_at(anchors, signer) && ends_at_locator(ends, signer, tal)
 }
 
 /// The open paths whose last certificates name themselves and have the locator's key become anchored; whether there is one.
-pub(crate) fn mark_locator(
-    certs: &[Cert],
-    ends: &[usize],
-    anchors: &mut Vec<Anchor>,
-    tal: &Tal,
-) -> bool
-    ensures found { IsTrue result ↔ ((signer : ℕ)
-        × IsOpenAt (IsAtLocator tal.now.key) certs.now ends.now anchors.old.items signer) }
-    ensures marked { AreMarked
-        (IsOpenAt (IsAtLocator tal.now.key) certs.now ends.now anchors.old.items) Locator
+pub(crate) fn mark_locator(ends: &Ends<'_>, anchors: &mut Vec<Anchor>, tal: &Tal) -> bool
+    ensures found { IsTrue result ↔ ((signer : ℕ) × IsOpenAt (IsAtLocator tal.now.key)
+        ends.now.certs.now ends.now.places.now anchors.old.items signer) }
+    ensures marked { AreMarked (IsOpenAt (IsAtLocator tal.now.key)
+        ends.now.certs.now ends.now.places.now anchors.old.items) Locator
         anchors.old.items anchors.new.items }
 {
     let mut found = false;
     for signer in 0..anchors.len() {
-        if is_open_end(certs, ends, anchors.as_slice(), signer, tal) {
+        if is_open_end(ends, anchors.as_slice(), signer, tal) {
             anchors[signer] = Anchor::Locator;
             found = true;
         }

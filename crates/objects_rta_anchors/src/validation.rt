@@ -9,14 +9,15 @@ ghost use Rattle.objects_rta_anchors.specs.Anchors.{AreMarked, IsAtLocator, IsBe
 ghost use Rattle.objects_rta_anchors.specs.Beginnings.{kind_of};
 ghost use Rattle.objects_rta_anchors.specs.Coverage.{AreAnchored, Holds, IsCovered, stated_of};
 ghost use Rattle.objects_rta_anchors.specs.Ends.{AreExplicit};
+ghost use Rattle.objects_rta_anchors.specs.Lent.{AreKept};
 ghost use Rattle.objects_rta_anchors.specs.declared.anchor.Anchor.TheVariants.{Issuer, Locator, Open};
 
 use crate::accessors::certs_of;
 use crate::anchor::{Anchor, are_anchored};
-use crate::below::{first_below, mark_issuer};
-use crate::covered::gather_ip;
+use crate::below::{Supplied, first_below, mark_issuer};
+use crate::covered::{Anchored, gather_ip};
 use crate::covered_as::gather_as;
-use crate::ends::last_places;
+use crate::ends::{Ends, last_places};
 use crate::held::{Family, is_listed_as, is_listed_ip};
 use crate::locator::mark_locator;
 use objects_payload::locator::Tal;
@@ -215,8 +216,9 @@ impl Validation {
         ensures unfound { result ≡ false → self.new ≡ self.old }
     {
         let certs = certs_of(self.valid.rta());
-        let ends = self.ends.as_slice();
-        mark_locator(certs, ends, &mut self.anchors, tal)
+        let places = self.ends.as_slice();
+        let ends = Ends { certs, places };
+        mark_locator(&ends, &mut self.anchors, tal)
     }
 
     // The first signer whose path is open and ends with a certificate below the authority. The verifier is asked at most once
@@ -233,9 +235,10 @@ impl Validation {
             (λ first. V.count verifier.new ≤ V.count verifier.old + first + 1) }
     {
         let certs = certs_of(self.valid.rta());
-        let ends = self.ends.as_slice();
+        let places = self.ends.as_slice();
+        let ends = Ends { certs, places };
         let anchors = self.anchors.as_slice();
-        match first_below(certs, ends, anchors, ca, verifier) {
+        match first_below(&ends, anchors, ca, verifier) {
             Some(first) => Some(first),
             None => None,
         }
@@ -271,8 +274,10 @@ impl Validation {
         let issuer = ca.clone()?;
         self.issuers.push(issuer)?;
         let certs = certs_of(self.valid.rta());
-        let ends = self.ends.as_slice();
-        mark_issuer(certs, ends, &mut self.anchors, first, number, ca, verifier);
+        let places = self.ends.as_slice();
+        let ends = Ends { certs, places };
+        let supplied = Supplied { ca, number };
+        mark_issuer(&ends, &mut self.anchors, first, &supplied, verifier);
         Ok(())
     }
 
@@ -316,21 +321,30 @@ impl Validation {
 
 /// What its paths cover.
 impl Validation {
+    // Its paths, as they are anchored.
+    fn anchored(&self) -> Anchored<'_>
+        ensures certs { result.certs.now ≡ self.now.rta.signed.certs }
+        ensures issuers { result.issuers.now ≡ self.now.issuers }
+        ensures paths { result.paths.now.paths ≡ self.now.paths }
+        ensures anchors { result.anchors.now ≡ self.now.anchors }
+        ensures kept { AreKept result }
+    {
+        Anchored {
+            certs: certs_of(self.valid.rta()),
+            issuers: self.issuers.as_slice(),
+            paths: self.valid.paths(),
+            ends: self.ends.as_slice(),
+            anchors: self.anchors.as_slice(),
+        }
+    }
+
     // Whether just the addresses of the family are stated that some path covers.
     fn is_ip_covered(&self, alloc: Global, family: Family) -> Result<bool, AllocError>
         ensures { IfOk result (λ yes. IsTrue yes ↔ IsCovered self.now (kind_of family)) }
     {
-        let rta = self.valid.rta();
-        let held = gather_ip(
-            alloc,
-            certs_of(rta),
-            self.issuers.as_slice(),
-            self.valid.paths(),
-            self.ends.as_slice(),
-            self.anchors.as_slice(),
-            family,
-        )?;
-        let is_same = is_listed_ip(stated_ip(rta, family), &held)?;
+        let anchored = self.anchored();
+        let held = gather_ip(alloc, &anchored, family)?;
+        let is_same = is_listed_ip(stated_ip(self.rta(), family), &held)?;
         Ok(is_same)
     }
 
@@ -338,16 +352,9 @@ impl Validation {
     fn is_as_covered(&self, alloc: Global) -> Result<bool, AllocError>
         ensures { IfOk result (λ yes. IsTrue yes ↔ IsCovered self.now As) }
     {
-        let rta = self.valid.rta();
-        let held = gather_as(
-            alloc,
-            certs_of(rta),
-            self.issuers.as_slice(),
-            self.valid.paths(),
-            self.ends.as_slice(),
-            self.anchors.as_slice(),
-        )?;
-        let is_same = is_listed_as(rta.content().as_resources(), &held)?;
+        let anchored = self.anchored();
+        let held = gather_as(alloc, &anchored)?;
+        let is_same = is_listed_as(self.rta().content().as_resources(), &held)?;
         Ok(is_same)
     }
 

@@ -1,5 +1,5 @@
 -- Tests over the paths that were found are tests over the only paths.
-use Rattle.std.proofs.Common.{◌≡◌, ℕ, Bool, List, [], ◌∷◌, Option, Result, Ok, Err, map, length, refl, sym, ap, ◌∙◌, subst}
+use Rattle.std.proofs.Common.{◌≡◌, ℕ, Bool, List, [], ◌∷◌, Option, Result, Ok, Err, map, length, refl, sym, ap, subst}
 use Rattle.std.specs.Prelude.{◌↔◌, IfOk, IsTrue}
 use Rattle.std.specs.List.{AllZip}
 use Rattle.std.specs.declared.alloc.AllocError.{AllocError}
@@ -8,10 +8,10 @@ use Rattle.certs_verify.specs.certs_basics.Lists.{Each}
 use Rattle.certs_verify.specs.certs_basics.Verdicts.{Verdicts}
 use Rattle.certs_verify.specs.certs_extension.Cert.{CertValue}
 use Rattle.certs_verify.specs.certs_extension.CrlText.{CrlValue}
-use Rattle.objects_rta.specs.objects_cms.Content.{object_with}
 use Rattle.objects_rta.specs.objects_cms.Signer.{SignerValue, signer_fields}
-use Rattle.objects_rta.specs.objects_payload.ObjectText.{Signer, Sound, signer_of}
+use Rattle.objects_rta.specs.objects_payload.ObjectText.{Signer, signer_of}
 use Rattle.objects_rta.specs.AttestationParts.{RtaValue}
+use Rattle.objects_rta.specs.MultiText.{Multi}
 use Rattle.objects_rta_valid.specs.declared.errors.RtaTest.TheVariants as test
 use Rattle.objects_rta_valid.specs.Apart.{AreApart}
 use Rattle.objects_rta_valid.specs.Places.{AreLinks, HaveSame, Stands, firsts, pairs}
@@ -34,43 +34,19 @@ both_told r paths P b only h = (
   (λ f. h.1 (f.0, f.1 paths only)),
 )
 
--- Signers as they are read, and as an object has them.
-pub zip_signers : (P : Signer → ℕ → Type 0) (infos : List SignerValue) (places : List ℕ) → AllZip (λ s place. P (signer_of (signer_fields s)) place) infos places ↔ AllZip P (map signer_of (map signer_fields infos)) places
-zip_signers P infos places = (there P infos places, back P infos places)
-  where
-    there : (P : Signer → ℕ → Type 0) (infos : List SignerValue) (places : List ℕ) → AllZip (λ s place. P (signer_of (signer_fields s)) place) infos places → AllZip P (map signer_of (map signer_fields infos)) places
-    there P [] [] a = a
-    there P [] (x ∷ xs) a = a
-    there P (s ∷ ss) [] a = a
-    there P (s ∷ ss) (x ∷ xs) a = (a.0, there P ss xs a.1)
-
-    back : (P : Signer → ℕ → Type 0) (infos : List SignerValue) (places : List ℕ) → AllZip P (map signer_of (map signer_fields infos)) places → AllZip (λ s place. P (signer_of (signer_fields s)) place) infos places
-    back P [] [] a = a
-    back P [] (x ∷ xs) a = a
-    back P (s ∷ ss) [] a = a
-    back P (s ∷ ss) (x ∷ xs) a = (a.0, back P ss xs a.1)
-
 pub sids_same : (infos : List SignerValue) → map (λ (s : SignerValue). s.sid) infos ≡ map (λ (s : Signer). s.sid) (map signer_of (map signer_fields infos))
 sids_same [] = refl
 sids_same (s ∷ ss) = ap (λ (xs : List (List ℕ)). s.sid ∷ xs) (sids_same ss)
 
-iff_trans : {A B C : Type 0} → (A ↔ B) → (B ↔ C) → (A ↔ C)
-iff_trans h k = ((λ a. k.0 (h.0 a)), (λ c. h.1 (k.1 c)))
-
 -- The tests, one by one, from what the calls answer.
-pub content_told : (d : Digests) (good : Verdicts) (r : RtaValue) (paths : List (List ℕ)) (infos : List SignerValue) (content : List ℕ) (certs : List CertValue) (places : List ℕ) (answer : Result Bool AllocError)
-    → AreItsPaths r paths → map signer_of (map signer_fields infos) ≡ r.signed.signers → content ≡ r.signed.content → certs ≡ r.signed.certs → places ≡ firsts paths
-    → IfOk answer (λ yes. (ct : List ℕ) → IsTrue yes ↔ AllZip (λ s place. Stands certs place (λ c. Sound d good (object_with ct content c s))) infos places)
+pub content_told : (d : Digests) (good : Verdicts) (r : RtaValue) (paths : List (List ℕ)) (o : Multi) (places : List ℕ) (answer : Result Bool AllocError)
+    → AreItsPaths r paths → o ≡ r.signed → places ≡ firsts paths → IfOk answer (λ yes. IsTrue yes ↔ AllZip (IsSoundAt d good o) o.signers places)
     → IfOk answer (λ yes. (strict : Bool) (now : ℕ) → IsTrue yes ↔ Passes d good strict now r test.Content)
-content_told d good r paths infos content certs places (Ok b) only signers same carried first h = λ strict now.
-    let ct = r.signed.content_type in
-    let a = subst (λ (ps : List ℕ). IsTrue b ↔ AllZip (λ (s : SignerValue) (place : ℕ). Stands certs place (λ c. Sound d good (object_with ct content c s))) infos ps) first (h ct) in
-    let k = subst (λ (cs : List CertValue). IsTrue b ↔ AllZip (λ (s : SignerValue) (place : ℕ). Stands cs place (λ c. Sound d good (object_with ct content c s))) infos (firsts paths)) carried a in
-    let e = subst (λ (x : List ℕ). IsTrue b ↔ AllZip (λ (s : SignerValue) (place : ℕ). Stands r.signed.certs place (λ c. Sound d good (object_with ct x c s))) infos (firsts paths)) same k in
-    let f = iff_trans e (zip_signers (IsSoundAt d good r.signed) infos (firsts paths)) in
+content_told d good r paths o places (Ok b) only same first h = λ strict now.
+    let lent = subst (λ (ps : List ℕ). IsTrue b ↔ AllZip (IsSoundAt d good o) o.signers ps) first h in
     of_paths_told r paths (λ ps. AllZip (IsSoundAt d good r.signed) r.signed.signers (firsts ps)) b only
-    (subst (λ (ss : List Signer). IsTrue b ↔ AllZip (IsSoundAt d good r.signed) ss (firsts paths)) signers f)
-content_told d good r paths infos content certs places (Err e) only signers same carried first h = tt
+    (subst (λ (x : Multi). IsTrue b ↔ AllZip (IsSoundAt d good x) x.signers (firsts paths)) same lent)
+content_told d good r paths o places (Err e) only same first h = tt
 
 pub forms_told : (d : Digests) (strict : Bool) (r : RtaValue) (paths : List (List ℕ)) (certs : List CertValue) (answer : Result Bool AllocError)
     → AreItsPaths r paths → certs ≡ r.signed.certs → IfOk answer (λ yes. IsTrue yes ↔ HaveForms d strict certs paths)

@@ -1,10 +1,10 @@
 mod Flat
-mod Tables
+pub mod Tables
 mod Walks
 mod Steps
 mod Decided
 mod Extend
-mod Standing
+pub mod Standing
 mod Passing
 mod Vouching
 mod Signing

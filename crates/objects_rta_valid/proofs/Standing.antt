@@ -9,7 +9,7 @@ use Rattle.objects_rta_valid.specs.Places.{Stands}
 pub stands_told : {X : Type 0} (P : X → Type 0) (xs : List X) (place : ℕ) (x : X) (r : Bool) → slice_get xs place ≡ Some x → (IsTrue r ↔ P x) → (IsTrue r ↔ Stands xs place P)
 stands_told P xs place x r e h = ((λ t. record { one = x; at = e; is = h.0 t }), (λ s. h.1 (subst P (same_Some s.one x (sym s.at ∙ e)) s.is)))
 
-none_some : {X : Type 0} (o : Option X) (x : X) → o ≡ None → o ≡ Some x → ⊥
+pub none_some : {X : Type 0} (o : Option X) (x : X) → o ≡ None → o ≡ Some x → ⊥
 none_some o x e f = cc
 
 pub none_stands : {X : Type 0} (P : X → Type 0) (xs : List X) (place : ℕ) → slice_get xs place ≡ None → Stands xs place P → ⊥

@@ -1,6 +1,6 @@
 -- Tables of what stands behind each place.
 use Rattle.std.proofs.Common.{◌≡◌, ℕ, ◌+◌, ◌<◌, ◌≤◌, zero, suc, List, [], ◌∷◌, ◌++◌, Option, Some, None, drop, length, set, replicate, refl, sym, ap, ◌∙◌, subst, inl, inr, arith}
-use Rattle.std.specs.Prelude.{◌⊎◌, ◌↔◌}
+use Rattle.std.specs.Prelude.{◌⊎◌}
 use Rattle.std.specs.List.{flat_map, slice_get}
 use Rattle.std.proofs.lemmas.Bool.{cases_lt}
 use Rattle.std.proofs.lemmas.Bool.Decides.{eqb_tells}
@@ -12,12 +12,12 @@ use Rattle.objects_rta_valid.specs.Places.{AreFunctional, AreLinks, ArePairsTo, 
 use Rattle.objects_rta_valid.proofs.Flat.{cut}
 use Rattle.objects_rta_valid.proofs.Steps.{mem_left, mem_right, mem_split}
 
-at_set : {X : Type 0} (xs : List X) (i : ℕ) (x : X) → i < length xs → slice_get (set xs i x) i ≡ Some x
+pub at_set : {X : Type 0} (xs : List X) (i : ℕ) (x : X) → i < length xs → slice_get (set xs i x) i ≡ Some x
 at_set [] i x h = absurd (omega arith)
 at_set (y ∷ ys) zero x h = refl
 at_set (y ∷ ys) (suc i) x h = at_set ys i x (omega arith)
 
-beside_set : {X : Type 0} (xs : List X) (i k : ℕ) (x : X) → (i ≡ k → ⊥) → slice_get (set xs i x) k ≡ slice_get xs k
+pub beside_set : {X : Type 0} (xs : List X) (i k : ℕ) (x : X) → (i ≡ k → ⊥) → slice_get (set xs i x) k ≡ slice_get xs k
 beside_set [] i k x h = refl
 beside_set (y ∷ ys) zero zero x h = absurd (h refl)
 beside_set (y ∷ ys) zero (suc k) x h = refl

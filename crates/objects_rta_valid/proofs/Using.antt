@@ -9,7 +9,6 @@ use Rattle.certs_verify.specs.certs_extension.CrlText.{CrlValue}
 use Rattle.objects_paths.specs.Nodes.{each_octets}
 use Rattle.objects_rta_valid.specs.Certs.{IsUsed}
 use Rattle.objects_rta_valid.specs.Keyed.{HasPlace, IsKeyed, KeyAt}
-use Rattle.objects_rta_valid.specs.Places.{Stands}
 use Rattle.objects_rta_valid.specs.Vouched.{authority_of, key_list, subject_of, upper_key, upper_keys}
 use Rattle.objects_rta_valid.specs.declared.keyed.KeyPlaces.{KeyPlaces}
 use Rattle.objects_rta_valid.proofs.Sought.{key_here, place_told, some_here, told_place}

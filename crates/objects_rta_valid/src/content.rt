@@ -5,12 +5,13 @@ ghost use Rattle.std.specs.List.{AllZip};
 ghost use Rattle.certs_verify.specs.certs_key.Digesting.{digests_of};
 ghost use Rattle.certs_verify.specs.certs_x509.declared.errors.verification.VerificationError.TheVariants.{Memory};
 ghost use Rattle.objects_rta.specs.objects_cms.Content.{object_with};
-ghost use Rattle.objects_rta.specs.objects_payload.ObjectText.{Sound};
-ghost use Rattle.objects_rta_valid.specs.Places.{Stands};
+ghost use Rattle.objects_rta.specs.objects_cms.Signer.{signer_fields};
+ghost use Rattle.objects_rta.specs.objects_payload.ObjectText.{Sound, signer_of};
+ghost use Rattle.objects_rta_valid.specs.Validity.{IsSoundAt};
 
 use crate::certs::cert_at;
 use certs_verify::{Cert, Digester, VerificationError, Verifier};
-use objects_rta::{OctetString, SignerInfo, verify_content};
+use objects_rta::{MultiSignedObject, OctetString, SignerInfo, verify_content};
 use std::alloc::{AllocError, Global};
 
 // Whether memory was wanted.
@@ -46,54 +47,50 @@ fn is_sound<D: Digester, V: Verifier>(
     }
 }
 
-// Whether that holds of the certificate at the place. The verifier is asked at most once.
+// Whether the object's content with that signer is sound, with the certificate at the place. The verifier is asked at most
+// once.
 fn is_sound_at<D: Digester, V: Verifier>(
     alloc: Global,
+    signed: &MultiSignedObject,
     signer: &SignerInfo,
-    content: &OctetString,
-    certs: &[Cert],
     place: usize,
     digester: &D,
     verifier: &mut V,
 ) -> Result<bool, AllocError>
-    ensures sound { IfOk result (λ yes. (content_type : List ℕ) → IsTrue yes
-        ↔ Stands certs.now place (λ c. Sound
+    ensures sound { IfOk result (λ yes. IsTrue yes ↔ IsSoundAt
         (digests_of D.sha256_digest D.sha1_digest digester.now) (V.says verifier.old)
-        (object_with content_type content.now c signer.now))) }
+        signed.now (signer_of (signer_fields signer.now)) place) }
     ensures same { V.says verifier.new ≡ V.says verifier.old }
     ensures asked { V.count verifier.new ≤ V.count verifier.old + 1 }
 {
-    match cert_at(certs, place) {
-        Some(cert) => is_sound(alloc, signer, content, cert, digester, verifier),
+    match cert_at(signed.certificates(), place) {
+        Some(cert) => is_sound(alloc, signer, signed.content(), cert, digester, verifier),
         None => Ok(false),
     }
 }
 
-/// Whether each signer signed the content, with the certificate at the place that goes with it. The verifier is asked at most
-/// once for each.
+/// Whether each signer signed the object's content, with the certificate at the place that goes with it. The verifier is asked
+/// at most once for each.
 pub(crate) fn are_sound<D: Digester, V: Verifier>(
     alloc: Global,
-    signers: &[SignerInfo],
-    content: &OctetString,
-    certs: &[Cert],
+    signed: &MultiSignedObject,
     places: &[usize],
     digester: &D,
     verifier: &mut V,
 ) -> Result<bool, AllocError>
-    ensures sound { IfOk result (λ yes. (content_type : List ℕ) → IsTrue yes
-        ↔ AllZip (λ s place. Stands certs.now place (λ c. Sound
+    ensures sound { IfOk result (λ yes. IsTrue yes ↔ AllZip (IsSoundAt
         (digests_of D.sha256_digest D.sha1_digest digester.now) (V.says verifier.old)
-        (object_with content_type content.now c s))) signers.now places.now) }
+        signed.now) signed.now.signers places.now) }
     ensures same { V.says verifier.new ≡ V.says verifier.old }
-    ensures asked { V.count verifier.new ≤ V.count verifier.old + length signers.now }
+    ensures asked { V.count verifier.new ≤ V.count verifier.old + length signed.now.signers }
 {
-    let mut rest = signers;
+    let mut rest = signed.signer_infos();
     let mut ahead = places;
     while let Some((signer, others)) = rest.split_first() {
         let Some((place, left)) = ahead.split_first() else {
             return Ok(false);
         };
-        let is_good = is_sound_at(alloc, signer, content, certs, *place, digester, verifier)?;
+        let is_good = is_sound_at(alloc, signed, signer, *place, digester, verifier)?;
         if !is_good {
             return Ok(false);
         }

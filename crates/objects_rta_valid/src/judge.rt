@@ -17,6 +17,7 @@ use crate::errors::{RtaError, RtaTest};
 use crate::forms::{are_current, are_issuers, are_signers};
 use crate::lists::{are_served, are_used, good_lists};
 use crate::places::{first_places, links, neighbours};
+use crate::terms::Terms;
 use certs_verify::{Cert, Digester, Verifier};
 use objects_paths::Paths;
 use objects_rta::{Crl, Rta, SignerInfo, Time};
@@ -60,16 +61,7 @@ fn passes_content<D: Digester, V: Verifier>(
         ≤ V.count verifier.old + length rta.now.signed.signers }
 {
     let firsts = first_places(alloc, paths)?;
-    let content = rta.signed().content();
-    are_sound(
-        alloc,
-        signers_of(rta),
-        content,
-        certs_of(rta),
-        firsts.as_slice(),
-        digester,
-        verifier,
-    )
+    are_sound(alloc, rta.signed(), firsts.as_slice(), digester, verifier)
 }
 
 // Whether the certificates have their forms along paths.
@@ -170,32 +162,31 @@ pub(crate) fn judge<D: Digester, V: Verifier>(
     alloc: Global,
     rta: &Rta,
     paths: &Paths,
-    strict: bool,
-    now: Time,
-    digester: &D,
+    terms: &Terms<'_, D>,
     verifier: &mut V,
 ) -> Result<(), RtaError>
     requires { HasWalked rta.now paths.now }
-    ensures validates { Validates (digests_of D.sha256_digest D.sha1_digest digester.now)
-        (V.says verifier.old) strict now rta.now result }
+    ensures validates { Validates
+        (digests_of D.sha256_digest D.sha1_digest terms.now.digester.now)
+        (V.says verifier.old) terms.now.strict terms.now.moment rta.now result }
     ensures same { V.says verifier.new ≡ V.says verifier.old }
     ensures asked { V.count verifier.new ≤ V.count verifier.old
         + length rta.now.signed.signers + length rta.now.signed.certs
         + length rta.now.signed.crls }
 {
-    let has_content = passes_content(alloc, rta, paths, digester, verifier)?;
+    let has_content = passes_content(alloc, rta, paths, terms.digester, verifier)?;
     if !has_content {
         return Err(RtaError::Test(RtaTest::Content));
     }
-    let has_forms = passes_forms(alloc, rta, paths, strict, digester)?;
+    let has_forms = passes_forms(alloc, rta, paths, terms.strict, terms.digester)?;
     if !has_forms {
         return Err(RtaError::Test(RtaTest::Forms));
     }
-    let is_current = passes_validity(rta, now);
+    let is_current = passes_validity(rta, terms.moment);
     if !is_current {
         return Err(RtaError::Test(RtaTest::Validity));
     }
-    let has_signatures = passes_signatures(alloc, rta, paths, now, verifier)?;
+    let has_signatures = passes_signatures(alloc, rta, paths, terms.moment, verifier)?;
     if !has_signatures {
         return Err(RtaError::Test(RtaTest::Signatures));
     }
@@ -203,7 +194,7 @@ pub(crate) fn judge<D: Digester, V: Verifier>(
     if !has_lists {
         return Err(RtaError::Test(RtaTest::Lists));
     }
-    let is_unrevoked = passes_revocation(alloc, rta, paths, now, verifier)?;
+    let is_unrevoked = passes_revocation(alloc, rta, paths, terms.moment, verifier)?;
     if !is_unrevoked {
         return Err(RtaError::Test(RtaTest::Revocation));
     }

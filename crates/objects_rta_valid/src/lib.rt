@@ -24,6 +24,7 @@ mod keyed;
 mod keys;
 mod lists;
 mod places;
+mod terms;
 pub mod validation;
 mod walk;
 

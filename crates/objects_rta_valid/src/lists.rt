@@ -53,37 +53,43 @@ fn place_of_key(places: &KeyPlaces<'_>, cert: &Cert) -> Option<usize>
     places.last(key.as_slice())
 }
 
+// Certificates that may have issued lists, with the places of their keys.
+#[derive(Drop)]
+struct Issuers<'a, 'k> {
+    certs: &'a [Cert],
+    places: KeyPlaces<'k>,
+}
+
 // The certificate whose list it is, by key identifiers.
-fn issuer_of<'a>(certs: &'a [Cert], places: &KeyPlaces<'_>, crl: &Crl) -> Option<&'a Cert>
-    requires { IsKeyed (map subject_of certs.now) places.now }
-    ensures there { IfSome result (λ p. Mem certs.now p.now) }
+fn issuer_of<'a>(issuers: &Issuers<'a, '_>, crl: &Crl) -> Option<&'a Cert>
+    requires { IsKeyed (map subject_of issuers.now.certs.now) issuers.now.places }
+    ensures there { IfSome result (λ p. Mem issuers.now.certs.now p.now) }
     ensures of_issuer { IfSome result (λ p. crl.now.tbs.authority_key_identifier
         ≡ p.now.tbs.subject_key_identifier) }
-    ensures none { IfNone result ((p : CertValue) → Mem certs.now p
+    ensures none { IfNone result ((p : CertValue) → Mem issuers.now.certs.now p
         → crl.now.tbs.authority_key_identifier ≡ p.tbs.subject_key_identifier → ⊥) }
 {
-    match place_of_list(places, crl) {
-        Some(place) => cert_at(certs, place),
+    match place_of_list(&issuers.places, crl) {
+        Some(place) => cert_at(issuers.certs, place),
         None => None,
     }
 }
 
 // Whether the list is a good one of the certificate whose it is. The verifier is asked once, at most.
 fn is_good_carried<V: Verifier>(
-    certs: &[Cert],
-    places: &KeyPlaces<'_>,
+    issuers: &Issuers<'_, '_>,
     crl: &Crl,
     now: Time,
     verifier: &mut V,
 ) -> bool
-    requires apart { AreApart (map node_of certs.now) }
-    requires keyed { IsKeyed (map subject_of certs.now) places.now }
+    requires apart { AreApart (map node_of issuers.now.certs.now) }
+    requires keyed { IsKeyed (map subject_of issuers.now.certs.now) issuers.now.places }
     ensures good_list { IsTrue result
-        ↔ IsGoodCarried (V.says verifier.old) now certs.now crl.now }
+        ↔ IsGoodCarried (V.says verifier.old) now issuers.now.certs.now crl.now }
     ensures same { V.says verifier.new ≡ V.says verifier.old }
     ensures asked { V.count verifier.new ≤ V.count verifier.old + 1 }
 {
-    match issuer_of(certs, places, crl) {
+    match issuer_of(issuers, crl) {
         Some(issuer) => is_good(crl, issuer, now, verifier),
         None => false,
     }
@@ -103,21 +109,20 @@ fn with_serials(alloc: Global, crl: &Crl) -> Result<Crl, AllocError>
 fn keep_if_good<V: Verifier>(
     alloc: Global,
     lists: &mut Vec<Crl>,
-    certs: &[Cert],
-    places: &KeyPlaces<'_>,
+    issuers: &Issuers<'_, '_>,
     crl: &Crl,
     now: Time,
     verifier: &mut V,
 ) -> Result<(), AllocError>
-    requires apart { AreApart (map node_of certs.now) }
-    requires keyed { IsKeyed (map subject_of certs.now) places.now }
+    requires apart { AreApart (map node_of issuers.now.certs.now) }
+    requires keyed { IsKeyed (map subject_of issuers.now.certs.now) issuers.now.places }
     ensures kept { OnOk result (IsKept
-        (IsGoodCarried (V.says verifier.old) now certs.now crl.now) (kept_aside crl.now)
-        lists.old.items lists.new.items) }
+        (IsGoodCarried (V.says verifier.old) now issuers.now.certs.now crl.now)
+        (kept_aside crl.now) lists.old.items lists.new.items) }
     ensures same { V.says verifier.new ≡ V.says verifier.old }
     ensures asked { V.count verifier.new ≤ V.count verifier.old + 1 }
 {
-    if !is_good_carried(certs, places, crl, now, verifier) {
+    if !is_good_carried(issuers, crl, now, verifier) {
         return Ok(());
     }
     let copy = with_serials(alloc, crl)?;
@@ -128,23 +133,22 @@ fn keep_if_good<V: Verifier>(
 // The good lists, of all that are carried, by the places of certificates' keys. The verifier is asked at most once for each.
 fn good_among<V: Verifier>(
     alloc: Global,
-    certs: &[Cert],
-    places: &KeyPlaces<'_>,
+    issuers: &Issuers<'_, '_>,
     crls: &[Crl],
     now: Time,
     verifier: &mut V,
 ) -> Result<Vec<Crl>, AllocError>
-    requires apart { AreApart (map node_of certs.now) }
-    requires keyed { IsKeyed (map subject_of certs.now) places.now }
-    ensures lists { IfOk result (λ v. AreGoodOf (V.says verifier.old) now certs.now crls.now
-        v.items) }
+    requires apart { AreApart (map node_of issuers.now.certs.now) }
+    requires keyed { IsKeyed (map subject_of issuers.now.certs.now) issuers.now.places }
+    ensures lists { IfOk result (λ v. AreGoodOf (V.says verifier.old) now
+        issuers.now.certs.now crls.now v.items) }
     ensures same { V.says verifier.new ≡ V.says verifier.old }
     ensures asked { V.count verifier.new ≤ V.count verifier.old + length crls.now }
 {
     let mut lists = Vec::new(alloc);
     let mut rest = crls;
     while let Some((crl, others)) = rest.split_first() {
-        keep_if_good(alloc, &mut lists, certs, places, crl, now, verifier)?;
+        keep_if_good(alloc, &mut lists, issuers, crl, now, verifier)?;
         rest = others;
     }
     Ok(lists)
@@ -167,7 +171,8 @@ pub(crate) fn good_lists<V: Verifier>(
     let subjects = subjects_of(alloc, certs)?;
     let keys = lend_keys(alloc, subjects.as_slice())?;
     let places = places_of(alloc, keys.as_slice())?;
-    good_among(alloc, certs, &places, crls, now, verifier)
+    let issuers = Issuers { certs, places };
+    good_among(alloc, &issuers, crls, now, verifier)
 }
 
 // The list at that place, if there is one.

@@ -2,11 +2,12 @@
 
 ghost use Rattle.std.specs.Prelude.{◌≡◌, ◌+◌, ◌≤◌, ℕ, IfOk, length};
 ghost use Rattle.certs_verify.specs.certs_key.Digesting.{digests_of};
-ghost use Rattle.objects_rta_valid.specs.Answered.{HasWalked, IsWalk, Validates};
+ghost use Rattle.objects_rta_valid.specs.Answered.{IsWalk, Validates};
 ghost use Rattle.objects_rta_valid.specs.Validity.{AreItsPaths};
 
 use crate::errors::RtaError;
 use crate::judge::judge;
+use crate::terms::Terms;
 use crate::walk::walk;
 use certs_verify::{Digester, Verifier};
 use objects_paths::Paths;
@@ -30,45 +31,16 @@ impl Model for Validation {
     ghost view = { λ v. record { rta = v.rta; paths = v.paths.paths } };
 }
 
-// The paths, where the attestation passes the other tests, too; else the first that it doesn't pass.
-fn judged<D: Digester, V: Verifier>(
-    alloc: Global,
-    rta: &Rta,
-    paths: Paths,
-    strict: bool,
-    now: Time,
-    digester: &D,
-    verifier: &mut V,
-) -> Result<Paths, RtaError>
-    requires { HasWalked rta.now paths }
-    ensures validates { Validates (digests_of D.sha256_digest D.sha1_digest digester.now)
-        (V.says verifier.old) strict now rta.now result }
-    ensures walk { IfOk result (λ p. IsWalk rta.now p) }
-    ensures same { V.says verifier.new ≡ V.says verifier.old }
-    ensures asked { V.count verifier.new ≤ V.count verifier.old
-        + length rta.now.signed.signers + length rta.now.signed.certs
-        + length rta.now.signed.crls }
-{
-    match judge(alloc, rta, &paths, strict, now, digester, verifier) {
-        Ok(()) => Ok(paths),
-        Err(error) => {
-            drop(paths);
-            Err(error)
-        }
-    }
-}
-
 // The paths, where the attestation is valid; else the first test that it doesn't pass.
 fn examine<D: Digester, V: Verifier>(
     alloc: Global,
     rta: &Rta,
-    strict: bool,
-    now: Time,
-    digester: &D,
+    terms: &Terms<'_, D>,
     verifier: &mut V,
 ) -> Result<Paths, RtaError>
-    ensures validates { Validates (digests_of D.sha256_digest D.sha1_digest digester.now)
-        (V.says verifier.old) strict now rta.now result }
+    ensures validates { Validates
+        (digests_of D.sha256_digest D.sha1_digest terms.now.digester.now)
+        (V.says verifier.old) terms.now.strict terms.now.moment rta.now result }
     ensures walk { IfOk result (λ p. IsWalk rta.now p) }
     ensures same { V.says verifier.new ≡ V.says verifier.old }
     ensures asked { V.count verifier.new ≤ V.count verifier.old
@@ -76,7 +48,13 @@ fn examine<D: Digester, V: Verifier>(
         + length rta.now.signed.crls }
 {
     match walk(alloc, rta) {
-        Ok(paths) => judged(alloc, rta, paths, strict, now, digester, verifier),
+        Ok(paths) => match judge(alloc, rta, &paths, terms, verifier) {
+            Ok(()) => Ok(paths),
+            Err(error) => {
+                drop(paths);
+                Err(error)
+            }
+        },
         Err(error) => Err(error),
     }
 }
@@ -104,7 +82,12 @@ impl Validation {
         ensures asked { V.count verifier.new ≤ V.count verifier.old
             + length rta.signed.signers + length rta.signed.certs + length rta.signed.crls }
     {
-        match examine(alloc, &rta, strict, now, digester, verifier) {
+        let terms = Terms {
+            strict,
+            moment: now,
+            digester,
+        };
+        match examine(alloc, &rta, &terms, verifier) {
             Ok(paths) => Ok(Validation { rta, paths }),
             Err(error) => {
                 drop(rta);

@@ -1,15 +1,15 @@
 -- What is written of the content of an attestation is read again, and what is read is such that it is.
-use Rattle.std.proofs.Common.{◌≡◌, ◌≢◌, ℕ, List, [], ◌∷◌, Option, Some, None, suc, refl, sym, ap, ◌∙◌, subst, arith}
+use Rattle.std.proofs.Common.{◌≡◌, ◌≢◌, ℕ, List, [], ◌∷◌, Option, Some, None, refl, sym, ap, ◌∙◌, subst, arith}
 use Rattle.std.specs.Prelude.{All, IfSome}
 use Rattle.std.specs.Option.{option_map}
 use Rattle.std.proofs.lemmas.List.Elements.{All-cons, All-nil}
 use Rattle.objects_written.specs.bcder_tree.declared.mode.Mode.TheVariants.{Der}
 use Rattle.objects_written.specs.bcder_tree.Strings.{IsOctetString, octet_string_tag}
-use Rattle.objects_written.specs.bcder_tree.Tags.{TagValue, context, sequence_tag, set_tag}
-use Rattle.objects_written.specs.bcder_tree.Tree.{Tree, Trees, more, none, primitive}
+use Rattle.objects_written.specs.bcder_tree.Tags.{TagValue, context, set_tag}
+use Rattle.objects_written.specs.bcder_tree.Tree.{Tree, Trees, none, primitive}
 use Rattle.objects_written.specs.bcder.Kinds.{octets}
 use Rattle.objects_written.specs.bcder_content.Contents.{tag_of}
-use Rattle.objects_written.specs.bcder_content.Grammar.{End, Inside, Many, ManyCases, Opt, OptCases, Then, Without}
+use Rattle.objects_written.specs.bcder_content.Grammar.{End, Inside, ManyCases, Opt, OptCases, Then, Without}
 use Rattle.objects_written.specs.bcder_content.Texts.{SpellsOf}
 use Rattle.certs_key.proofs.of_bcder_content.Unique.{same_trees}
 use Rattle.objects_written.specs.bcder_values.Forms.{Alone, not_more}
@@ -19,7 +19,6 @@ use Rattle.objects_written.specs.certs_key.Algorithms.{digest_algorithm, sha256 
 use Rattle.certs_key.proofs.Written.{algorithm_sound}
 use Rattle.objects_written.specs.objects_payload.Contents.{IsVersion}
 use Rattle.objects_written.specs.objects_payload.Identifiers as id
-use Rattle.resources_as.specs.Encodings.{IsAsSet}
 use Rattle.resources_as.specs.Written.{HasMaximal}
 use Rattle.resources_as.proofs.Again.{set_again, set_fits}
 use Rattle.resources_ip.specs.resources_chain.Claims.{Choice}
@@ -38,9 +37,10 @@ use Rattle.objects_written.proofs.Words.{inside_of, last_of, then_of}
 use Rattle.objects_rta.specs.objects_valid.Stated.{AreListed, AreParts, AreStated, AreStatedFamilies, IsAsPart, IsStated, Parts, SaysSome, Stated, asn_of, families_of, stated_of}
 use Rattle.objects_rta.specs.objects_valid.declared.stated.AsForm.TheVariants.{BlocksAlone}
 use Rattle.objects_rta.proofs.of_objects_valid.Parts.{own_asn, own_v4, own_v6}
-use Rattle.objects_rta.specs.Attestations.{AreFields, AreSubjectKeys, Attestation, Fields, IsAttestation, IsSubjectKey, attestation_of}
-use Rattle.objects_rta_written.specs.Contents.{AreStatable, IsReadable, StatedParts, attestation, key, listed, numbers, parts_of, stated, tagged_families, tagged_numbers}
-use Rattle.objects_rta_written.proofs.Words.{all_first, all_others, by_trees, string_alone}
+use Rattle.objects_rta.specs.Attestations.{AreFields, AreSubjectKeys, Attestation, Fields, IsAttestation, IsSubjectKey}
+use Rattle.objects_rta_written.specs.Contents.{AreStatable, IsReadable, StatedParts, attestation, key, listed, numbers, stated, tagged_families, tagged_numbers}
+use Rattle.objects_written.proofs.FrameAgain.{by_trees, string_alone}
+use Rattle.objects_rta_written.proofs.Words.{all_first, all_others}
 
 -- Identifiers of keys.
 

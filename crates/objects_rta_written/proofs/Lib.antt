@@ -2,7 +2,6 @@ mod Words
 mod Signed
 mod ObjectAgain
 mod ContentAgain
-mod Taking
 mod Writing
 mod Making
 mod Signing

@@ -1,5 +1,5 @@
 -- How an attestation is made of the sets of all blocks that were given.
-use Rattle.std.proofs.Common.{◌≡◌, ◌≢◌, ◌⊎◌, inl, inr, ℕ, List, [], ◌∷◌, Option, Some, None, Result, Ok, Err, IfErr, IfOk, refl, sym, ap, ◌∙◌, subst, le_refl}
+use Rattle.std.proofs.Common.{◌≡◌, ◌≢◌, inl, inr, ℕ, List, [], ◌∷◌, Option, None, Result, Ok, Err, IfErr, IfOk, refl, sym, ap, ◌∙◌, subst, le_refl}
 use Rattle.std.specs.Prelude.{All}
 use Rattle.objects_written.specs.bcder_tree.declared.mode.Mode.TheVariants.{Der}
 use Rattle.objects_written.specs.bcder_tree.Front.{Front}
@@ -23,9 +23,9 @@ use Rattle.resources_ip.specs.WholeSets.{AreWhole}
 use Rattle.resources_ip.specs.Written.{FitsChoice}
 use Rattle.resources_ip.specs.WrittenFamilies.{both}
 use Rattle.objects_rta.specs.Attestations.{Attestation, IsAttestation}
-use Rattle.objects_rta_written.specs.Builders.{AreNone, BuilderRefused, ContentBuilder, IsListed, IsPutTogether, StatesNone}
-use Rattle.objects_rta_written.specs.Contents.{AreStatable, AttestationRefused, ContentParts, IsReadable, attestation, listed, parts_of}
-use Rattle.objects_rta_written.specs.Making.{AreAllNone, AreSetsOf, IsStatedBy, MakingRefused, SetsRefused, chosen, said_by, told_as}
+use Rattle.objects_rta_written.specs.Builders.{AreNone, BuilderRefused, ContentBuilder, IsListed, IsPutTogether}
+use Rattle.objects_rta_written.specs.Contents.{AttestationRefused, ContentParts, IsReadable, attestation, listed, parts_of}
+use Rattle.objects_rta_written.specs.Making.{AreSetsOf, IsStatedBy, MakingRefused, SetsRefused, chosen, said_by, told_as}
 use Rattle.objects_rta_written.specs.declared.builder.making.Sets.{Sets}
 
 -- Blocks and their set have the same numbers.
@@ -36,15 +36,6 @@ none_came came set is none n i = none n ((is.same n).1 i)
 pub none_set : (came set : List Run) → IsRunsOf (InRuns came) set → AreNone came → AreNone set
 none_set came set is none n i = none n ((is.same n).0 i)
 
-pub whole_set : (came set : List Run) → IsRunsOf (InRuns came) set → AreWhole came → AreWhole set
-whole_set came set is whole n m e i = (is.same m).1 (whole n m e ((is.same n).0 i))
-
-pub all_came : (a b c x y z : List Run) → IsRunsOf (InRuns a) x → IsRunsOf (InRuns b) y → IsRunsOf (InRuns c) z → AreAllNone x y z → AreAllNone a b c
-all_came a b c x y z p q r none = (none_came a x p none.0, (none_came b y q none.1.0, none_came c z r none.1.1))
-
-pub all_set : (a b c x y z : List Run) → IsRunsOf (InRuns a) x → IsRunsOf (InRuns b) y → IsRunsOf (InRuns c) z → AreAllNone a b c → AreAllNone x y z
-all_set a b c x y z p q r none = (none_set a x p none.0, (none_set b y q none.1.0, none_set c z r none.1.1))
-
 -- A set without numbers is empty.
 pub none_is : (set : List Run) → AreMaximal set → AreNone set → set ≡ []
 none_is [] m none = refl
@@ -52,9 +43,6 @@ none_is (r ∷ rs) m none = absurd (none r.first (inl (le_refl _, m.0)))
 
 pub empty_none : (set : List Run) → set ≡ [] → AreNone set
 empty_none set e = subst AreNone (sym e) (λ n i. i)
-
-pub not_all : (x y z : List Run) → (AreAllNone x y z → ⊥) → ¬ ((x ≡ []) × ((y ≡ []) × (z ≡ [])))
-not_all x y z some e = some (empty_none x e.0, (empty_none y e.1.0, empty_none z e.1.1))
 
 -- Sets that are chosen.
 
@@ -70,9 +58,6 @@ blocks_are (r ∷ rs) some = refl
 
 pub not_listed : (set : List Run) → AreMaximal set → AreNone set → None ≡ listed (chosen set)
 not_listed set m none = ap listed (missing_is set m none)
-
-pub are_listed : (set : List Run) → (AreNone set → ⊥) → Some set ≡ listed (chosen set)
-are_listed set some = ap listed (blocks_are set some)
 
 chosen_own : (set : List Run) → chosen set ≢ Inherit
 chosen_own [] e = absurd cc

@@ -1,12 +1,12 @@
 -- What is written of a signed object with several signers is read again, where its parts are.
-use Rattle.std.proofs.Common.{◌≡◌, ◌≢◌, ℕ, List, [], ◌∷◌, ◌++◌, Option, Some, None, map, suc, true, refl, sym, ap, ◌∙◌, subst, append-nil, arith}
+use Rattle.std.proofs.Common.{◌≡◌, ◌≢◌, ℕ, List, [], ◌∷◌, Option, Some, None, map, true, refl, sym, ap, ◌∙◌, subst, append-nil}
 use Rattle.std.specs.Prelude.{All}
 use Rattle.std.proofs.lemmas.List.Elements.{All-cons, All-nil}
 use Rattle.objects_written.specs.bcder_tree.declared.mode.Mode.TheVariants.{Der}
 use Rattle.objects_written.specs.bcder_tree.Tags.{context}
-use Rattle.objects_written.specs.bcder_tree.Tree.{SpellsAll, Tree, Trees, more, none}
+use Rattle.objects_written.specs.bcder_tree.Tree.{SpellsAll, Trees, more, none}
 use Rattle.objects_written.specs.bcder_content.Grammar.{Many, ManyCases}
-use Rattle.objects_written.specs.bcder_content.Texts.{InOrder, SpellsOf, Wraps}
+use Rattle.objects_written.specs.bcder_content.Texts.{InOrder, Wraps}
 use Rattle.objects_written.specs.bcder.Identifiers.{IsIdentifier}
 use Rattle.objects_written.specs.certs_extension.Cert.{CertValue}
 use Rattle.objects_written.specs.certs_extension.CertText.{SpellsCert}
@@ -14,15 +14,16 @@ use Rattle.objects_written.specs.certs_extension.CrlText.{CrlValue, IsCrl}
 use Rattle.certs_extension.specs.Spellings.{CrlIsSpelled}
 use Rattle.objects_written.specs.objects_payload.ObjectText.{Signer, SignerFields, SpellsSigner, signer_of}
 use Rattle.objects_written.specs.objects_payload.SignedAttributes.{AreAttributes, AttributesValue}
-use Rattle.objects_written.specs.Frames.{SignerParts, signer}
+use Rattle.objects_written.specs.Frames.{signer}
 use Rattle.objects_written.specs.Outputs.{each}
-use Rattle.objects_rta.specs.Several.{Perhaps, PerhapsCases, Repeats, RepeatsCases, Several}
+use Rattle.objects_rta.specs.Several.{Perhaps, PerhapsCases, RepeatsCases, Several}
 use Rattle.objects_rta.specs.Carried.{AreLists}
-use Rattle.objects_rta.specs.MultiText.{InfoFields, Multi, MultiFields, MultiText, SignsType, SpellsMulti, SpellsMultiInfo, lists_of, multi_of}
-use Rattle.objects_rta_written.specs.Again.{IsReadable, IsReadableCert, IsReadableCrl, IsReadableSigner, IsSignerInDer, StandsInDer, WritesAgain, parts_of, said_of, signer_parts, signer_with_null, with_null}
-use Rattle.objects_rta_written.specs.Frames.{MultiParts, cert, crl, lists, object}
+use Rattle.objects_rta.specs.MultiText.{InfoFields, Multi, MultiFields, MultiText, SignsType, SpellsMultiInfo, lists_of, multi_of}
+use Rattle.objects_rta_written.specs.Again.{IsReadable, IsReadableCert, IsReadableCrl, IsReadableSigner, IsSignerInDer, StandsInDer, WritesAgain, said_of, signer_parts, signer_with_null, with_null}
+use Rattle.objects_rta_written.specs.Frames.{cert, crl, lists}
 use Rattle.objects_rta_written.proofs.Signed.{cert_again, cert_in_der, crl_again, crl_in_der}
-use Rattle.objects_rta_written.proofs.Words.{all_first, all_others, content_spelled, ends_of, joins_of, repeats_of, sha256_set_spelled, signed_data_spelled, signer_spelled, signs, three_spelled, wraps_of}
+use Rattle.objects_written.proofs.FrameAgain.{content_spelled, ends_of, joins_of, sha256_set_spelled, signed_data_spelled, signer_spelled, signs, three_spelled, wraps_of}
+use Rattle.objects_rta_written.proofs.Words.{all_first, all_others, repeats_of}
 
 -- Certificates.
 

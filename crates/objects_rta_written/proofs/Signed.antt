@@ -1,10 +1,10 @@
 -- What is written of a certificate and of a revocation list that stand in DER is read again.
-use Rattle.std.proofs.Common.{◌≡◌, ℕ, Bool, List, refl, sym, ap, ◌∙◌, subst}
+use Rattle.std.proofs.Common.{ℕ, Bool, List, sym, ap, subst}
 use Rattle.objects_written.specs.bcder_tree.declared.mode.Mode.TheVariants.{Der}
 use Rattle.objects_written.specs.bcder_tree.Tree.{Spells, SpellsAll, Tree, Trees, constructed}
 use Rattle.objects_written.specs.bcder_tree.Tags.{sequence_tag}
 use Rattle.certs_cert.specs.bcder_octets.Bits.{BitsValue}
-use Rattle.certs_cert.specs.bcder_octets.BitContents.{IsBitString, IsPadded, bit_string_tag, padded_in}
+use Rattle.certs_cert.specs.bcder_octets.BitContents.{IsBitString, IsPadded, bit_string_tag}
 use Rattle.objects_written.specs.bcder_content.Grammar.{OctetsOf}
 use Rattle.objects_written.specs.bcder_content.Kept.{CapturedValue}
 use Rattle.objects_written.specs.bcder_content.Texts.{SpellsOf, WithOctets}
@@ -12,19 +12,18 @@ use Rattle.objects_written.specs.bcder_values.Captures.{CapturedText}
 use Rattle.objects_written.specs.bcder.Kinds.{bits}
 use Rattle.certs_key.proofs.Padded.{padded_same}
 use Rattle.certs_key.proofs.Written.{algorithm_spelled}
-use Rattle.certs_cert.specs.certs_x509.Signed.{signed as signed_form, signed_fields}
 use Rattle.objects_written.specs.certs_key.Algorithms.{x509_algorithm}
 use Rattle.objects_written.specs.certs_basics.Basics.{IsAlgorithm}
 use Rattle.objects_written.specs.certs_basics.Identifiers.{sha256_with_rsa}
 use Rattle.objects_written.specs.certs_extension.Cert.{CertValue}
-use Rattle.objects_written.specs.certs_extension.CertText.{SpellsCert, SpellsSigned, SpellsTbs, as_signed}
-use Rattle.objects_written.specs.certs_extension.CrlText.{CrlValue, IsCrl, SpellsCrl, SpellsTbsList}
+use Rattle.objects_written.specs.certs_extension.CertText.{SpellsCert, SpellsSigned, as_signed}
+use Rattle.objects_written.specs.certs_extension.CrlText.{CrlValue, IsCrl, SpellsCrl}
 use Rattle.certs_extension.specs.Spellings.{CrlIsSpelled}
 use Rattle.objects_written.specs.Outputs.{of}
 use Rattle.objects_written.proofs.Words.{only_spelled, spelled_of}
 use Rattle.objects_rta_written.specs.Again.{IsCertInDer, IsCrlInDer, IsReadableCert, IsReadableCrl}
 use Rattle.objects_rta_written.specs.Frames.{cert, crl, signed, value_of}
-use Rattle.objects_rta_written.proofs.Words.{by_trees, ends_of, joins_of, only, wraps_of}
+use Rattle.objects_written.proofs.FrameAgain.{by_trees, ends_of, joins_of, only, wraps_of}
 
 -- Signed octets, an algorithm and the bits of a signature.
 abbrev SignedOctets : Type 0 → Type 0

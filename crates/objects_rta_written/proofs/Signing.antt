@@ -1,5 +1,5 @@
 -- How a signer is made, and why it isn't.
-use Rattle.std.proofs.Common.{◌≡◌, ◌≢◌, ◌⊎◌, inl, inr, ℕ, List, [], ◌++◌, ◌∷◌, arith, true, Some, None, Result, Ok, Err, IfErr, IfOk, OnOk, refl, sym, ap, ◌∙◌, subst, append-nil}
+use Rattle.std.proofs.Common.{◌≡◌, ◌≢◌, inl, inr, ℕ, List, [], ◌++◌, ◌∷◌, arith, Result, Ok, Err, IfErr, IfOk, OnOk, refl, sym, ap, ◌∙◌, subst, append-nil}
 use Rattle.objects_written.specs.bcder_tree.declared.mode.Mode.TheVariants.{Der}
 use Rattle.objects_written.specs.bcder_tree.Front.{Front}
 use Rattle.objects_written.specs.bcder_tree.Tree.{Tree}
@@ -22,15 +22,14 @@ use Rattle.objects_rta.proofs.of_objects_cms.Ones.{signer_one}
 use Rattle.objects_rta.proofs.of_objects_cms.Spelled.{signer_tree}
 use Rattle.objects_written.specs.Attributes.{IsMessage, ToSign, WritesAttributes, attributes_of}
 use Rattle.objects_written.specs.Frames.{SignerParts, signer as written_signer}
-use Rattle.objects_written.specs.Refusing.{BuildRefused, CanTell, CannotSign, told_as}
+use Rattle.objects_written.specs.Refusing.{BuildRefused, CanTell, CannotSign}
 use Rattle.objects_written.proofs.Again.{attributes_again}
 use Rattle.objects_written.proofs.Refused.{enclosing, passed, weaker}
 use Rattle.objects_rta.specs.Attestations.{tagged_attestation}
-use Rattle.objects_rta_written.specs.Again.{signer_parts}
 use Rattle.objects_rta_written.specs.Builders.{AddsSigner, CannotAdd, CannotMake, CannotPut, Draft, IsSigner}
 use Rattle.objects_rta_written.specs.Signing.{AreAttributesOf, SignsThem, fields_of}
-use Rattle.objects_rta_written.specs.Taking.{in_der}
-use Rattle.objects_rta_written.proofs.Words.{signer_spelled, signs}
+use Rattle.objects_written.specs.Taking.{in_der}
+use Rattle.objects_written.proofs.FrameAgain.{signer_spelled}
 use Rattle.objects_rta_written.proofs.Writing.{too_long}
 
 -- What is written of a signer's parts spells its fields.
@@ -94,11 +93,6 @@ pub make_refused : {E : Type 0} (refuses : SigningError E → Type 0) (Signs : L
 make_refused refuses Signs s sid can e h = weaker refuses can can (CannotSign s) (CannotMake Signs s sid) (λ u. u) inl e h
 
 -- With the key that the signer told.
-pub adds : {A E : Type 0} (d : Digests) (HasKey : KeyValue → Type 0) (Signs : List ℕ → List ℕ → Type 0) (s : ToSign) (key : KeyValue) (sid : List ℕ) (f : A → Signer) → HasKey key → sid ≡ identifier d key
-    → (r : Result A E) → IfOk r (λ x. IsSigner Signs s sid (f x)) → IfOk r (λ x. (k : KeyValue) × HasKey k × IsSigner Signs s (identifier d k) (f x))
-adds d HasKey Signs s key sid f has same (Ok x) h = (key, has, subst (λ (o : List ℕ). IsSigner Signs s o (f x)) same h)
-adds d HasKey Signs s key sid f has same (Err e) h = tt
-
 cannot_add : (d : Digests) (HasKey : KeyValue → Type 0) (Signs : List ℕ → List ℕ → Type 0) (s : ToSign) (key : KeyValue) (sid : List ℕ) → HasKey key → sid ≡ identifier d key → CannotMake Signs s sid → CannotAdd d HasKey Signs s
 cannot_add d HasKey Signs s key sid has same m =
     elim m [

@@ -1,12 +1,11 @@
 -- What is written of parts, and why it isn't.
-use Rattle.std.proofs.Common.{◌≡◌, ◌≢◌, ◌<◌, ◌^◌, ◌↔◌, ℕ, Bool, true, false, IsTrue, List, [], ◌∷◌, length, map, Option, Some, None, Result, Ok, Err, IfErr, IfOk, refl, sym, ap, ◌∙◌, subst, ◌++◌, append_assoc, append-nil}
+use Rattle.std.proofs.Common.{◌≡◌, ◌≢◌, ◌<◌, ◌^◌, ◌↔◌, ℕ, Bool, true, false, IsTrue, List, [], ◌∷◌, length, map, Some, Result, Ok, Err, IfErr, refl, sym, ap, ◌∙◌, subst, ◌++◌, append_assoc}
 use Rattle.std.specs.Prelude.{All}
-use Rattle.std.specs.Result.{IsErr, IsErrAnd}
-use Rattle.std.proofs.lemmas.List.Elements.{All-cons, All-nil}
+use Rattle.std.proofs.lemmas.List.Elements.{All-cons}
 use Rattle.objects_written.specs.bcder_tree.declared.mode.Mode.{Mode}
 use Rattle.objects_written.specs.bcder_tree.declared.mode.Mode.TheVariants.{Der}
 use Rattle.objects_written.specs.bcder_tree.Tree.{Trees}
-use Rattle.objects_written.specs.bcder_content.Kept.{CapturedValue, SpellsValues}
+use Rattle.objects_written.specs.bcder_content.Kept.{SpellsValues}
 use Rattle.objects_written.specs.bcder_values.Gathered.{ExtendRefused}
 use Rattle.objects_written.specs.bcder_primitive.Encoded.{SpellsSome}
 use Rattle.objects_written.specs.bcder_primitive.declared.written.error.EncodeError.{EncodeError}
@@ -15,33 +14,27 @@ use Rattle.certs_cert.specs.certs_x509.Signed.{SignedDataValue, signed as signed
 use Rattle.certs_cert.specs.Whole.{signed_of}
 use Rattle.objects_written.specs.certs_extension.Cert.{SignedValue}
 use Rattle.objects_written.specs.certs_extension.CrlText.{CrlValue}
-use Rattle.objects_written.specs.objects_payload.ObjectText.{Signer, signer_of}
+use Rattle.objects_written.specs.objects_payload.ObjectText.{signer_of}
 use Rattle.objects_written.specs.objects_cms.Signer.{SignerValue, signer_fields}
 use Rattle.objects_written.specs.Frames.{SignerParts}
-use Rattle.objects_written.specs.Outputs.{Output, each, inside, perhaps}
+use Rattle.objects_written.specs.Outputs.{Output, each, inside}
 use Rattle.objects_written.specs.bcder_tree.Tags.{context}
 use Rattle.resources_as.specs.Written.{HasMaximal}
-use Rattle.resources_as.specs.declared.resources.InheritedAsResources.{InheritedAsResources}
 use Rattle.resources_as.proofs.of_resources_chain.SetLemmas.{one_list_of}
 use Rattle.resources_ip.specs.resources_chain.Claims.{Choice, Lists}
-use Rattle.resources_ip.specs.resources_chain.Sets.{InRuns, IsRunsOf, Run}
+use Rattle.resources_ip.specs.resources_chain.Sets.{IsRunsOf, Run}
 use Rattle.resources_ip.specs.resources_chain.declared.choice.ResourcesChoice.TheVariants.{Missing, Inherit, Blocks}
-use Rattle.resources_ip.specs.Encodings.{FamilyChoices}
-use Rattle.resources_ip.specs.WrittenFamilies.{both, is_said, says_any}
-use Rattle.certs.specs.Resources.{said_families}
+use Rattle.resources_ip.specs.WrittenFamilies.{is_said}
 use Rattle.objects_rta.specs.Attestations.{Attestation}
 use Rattle.objects_rta.specs.MultiText.{Multi}
-use Rattle.objects_rta_written.specs.Again.{AgainRefused, AreCarriedInDer, IsSignerInDer, PartsRefused, SignersRefused, StandsInDer, WritesAgain, parts_of, signer_parts, signers_seen}
-use Rattle.objects_rta_written.specs.Contents.{AttestationRefused, NumbersRefused, attestation, families, key, listed, numbers, tagged_families, tagged_numbers}
-use Rattle.objects_rta_written.specs.Contents as contents
-use Rattle.objects_rta_written.specs.Frames.{crl, lists, object, signed, value_of}
-use Rattle.objects_rta_written.specs.Taking.{DerRefused, IsInDer, IsTooLong, TextRefused, cause_told, in_der}
+use Rattle.objects_rta_written.specs.Again.{AgainRefused, IsSignerInDer, SignersRefused, StandsInDer, WritesAgain, signer_parts, signers_seen}
+use Rattle.objects_rta_written.specs.Contents.{AttestationRefused, attestation, key, listed}
+use Rattle.objects_rta_written.specs.Frames.{crl, lists, signed, value_of}
+use Rattle.objects_written.specs.Taking.{DerRefused}
+use Rattle.objects_rta_written.specs.Taking.{TextRefused, cause_told}
 use Rattle.objects_rta_written.proofs.Words.{all_first, all_others}
 
 -- Items of slices.
-
-pub same_trees : (o : Output) (T : Mode → Trees → Type 0) → o.trees ≡ T → (m : Mode) (ts : Trees) → o.trees m ts ↔ T m ts
-same_trees o T e m ts = (subst (λ (U : Mode → Trees → Type 0). U m ts) e, subst (λ (U : Mode → Trees → Type 0). U m ts) (sym e))
 
 -- Signed data with these octets, algorithm and signature is the same.
 signed_same : (v : SignedDataValue) (s : SignedValue) → signed_of v ≡ s → v ≡ value_of s
@@ -100,28 +93,6 @@ too_long o errors.TooLong n r text w few = r text w few
 too_long o errors.Write n r text w few = absurd r
 too_long o errors.Memory n r text w few = absurd (n refl)
 
-pub passed : {A : Type 0} (F G : EncodeError → Type 0) (r : Result A EncodeError) (e : EncodeError) → IsErr r × IsErrAnd r (λ x. x ≡ e) → F e → ((e : EncodeError) → F e → G e) → IfErr r G
-passed F G (Ok x) e a h f = absurd a.1
-passed F G (Err x) e a h f = subst G (sym a.1) (f e h)
-
-pub numbers_attested : (a : Attestation) (e : EncodeError) → NumbersRefused a.resources.asn e → AttestationRefused a e
-numbers_attested a errors.CerUnsupported h = h
-numbers_attested a errors.TooLong h = absurd h
-numbers_attested a errors.Write h = h
-numbers_attested a errors.Memory h = tt
-
-pub signers_parts : (o : Multi) → AreCarriedInDer o → (e : EncodeError) → SignersRefused o.signers e → PartsRefused o e
-signers_parts o carried errors.CerUnsupported h = λ s. h s.signers
-signers_parts o carried errors.TooLong h = absurd h
-signers_parts o carried errors.Write h = h
-signers_parts o carried errors.Memory h = carried
-
-pub parts_object : (o : Multi) (e : EncodeError) → PartsRefused o e → AgainRefused o e
-parts_object o errors.CerUnsupported h = h
-parts_object o errors.TooLong h = absurd h
-parts_object o errors.Write h = h
-parts_object o errors.Memory h = h
-
 -- Signers, one after the other.
 
 -- All stand in DER exactly where those that are left do.
@@ -145,12 +116,6 @@ parts_next old new rest others whole s v e is pushed h =
     ∙ ap (λ (x : SignerParts). old ++ (x ∷ map signer_parts (signers_seen others))) is
     ∙ sym (ap (λ (xs : List SignerValue). old ++ map signer_parts (signers_seen xs)) e)
     ∙ h
-
-pub parts_end : (old : List SignerParts) (rest whole : List SignerValue) → rest ≡ [] → old ++ map signer_parts (signers_seen rest) ≡ map signer_parts (signers_seen whole) → old ≡ map signer_parts (signers_seen whole)
-parts_end old rest whole e h = sym (append-nil old) ∙ sym (ap (λ (xs : List SignerValue). old ++ map signer_parts (signers_seen xs)) e) ∙ h
-
-pub stand_end : (rest whole : List SignerValue) → rest ≡ [] → StandAlike rest whole → All IsSignerInDer (signers_seen whole)
-stand_end rest whole e a = (subst (λ (xs : List SignerValue). StandAlike xs whole) e a).0 (All-nil IsSignerInDer)
 
 -- The attributes of the next aren't values in DER.
 pub signers_stop : (rest others whole : List SignerValue) (s : SignerValue) → rest ≡ s ∷ others → StandAlike rest whole → (e : EncodeError) → DerRefused (signer_of (signer_fields s)).attributes e

@@ -1,7 +1,6 @@
 -- Signed objects with several signers that were read, as they are written in DER (RFC 5652 3, 5.1).
 use Rattle.std.specs.Prelude.{◌≡◌, ◌≢◌, ℕ, List, [], map, true, All}
 use Rattle.objects_written.specs.bcder_tree.declared.mode.Mode.TheVariants.{Der}
-use Rattle.objects_written.specs.bcder_tree.Tree.{Tree}
 use Rattle.objects_written.specs.bcder.Identifiers.{IsIdentifier}
 use Rattle.objects_written.specs.bcder_content.Kept.{SpellsValues}
 use Rattle.objects_written.specs.bcder_content.Texts.{InOrder, SpellsOf}
@@ -17,7 +16,8 @@ use Rattle.objects_written.specs.Frames.{SignerParts}
 use Rattle.objects_written.specs.objects_cms.Signer.{SignerValue, signer_fields}
 use Rattle.objects_rta.specs.MultiText.{Multi}
 use Rattle.objects_rta_written.specs.Frames.{MultiParts, object}
-use Rattle.objects_rta_written.specs.Taking.{IsTooLong, in_der}
+use Rattle.objects_written.specs.Taking.{in_der}
+use Rattle.objects_rta_written.specs.Taking.{IsTooLong}
 
 -- What is written of a signer: its attributes as they stood (RFC 5652 5.4).
 abbrev pub signer_parts : Signer → SignerParts

@@ -1,5 +1,5 @@
 -- Resource tagged attestations that are put together (draft-ietf-sidrops-rpki-rta; this project's profile).
-use Rattle.std.specs.Prelude.{◌≡◌, ◌≢◌, ◌⊎◌, ◌++◌, ◌∷◌, ℕ, List, [], Some, None, true}
+use Rattle.std.specs.Prelude.{◌≡◌, ◌⊎◌, ◌++◌, ◌∷◌, ℕ, List, [], Some, None, true}
 use Rattle.objects_written.specs.bcder_tree.declared.mode.Mode.TheVariants.{Der}
 use Rattle.objects_written.specs.bcder_values.Writable.{Writable}
 use Rattle.objects_written.specs.certs_basics.HandedIn.{Digests}

@@ -1,5 +1,5 @@
 -- How a signer is made (RFC 5652 5.3, 5.4).
-use Rattle.std.specs.Prelude.{◌≡◌, ℕ, List, true}
+use Rattle.std.specs.Prelude.{ℕ, List, true}
 use Rattle.objects_written.specs.bcder.Identifiers.{IsIdentifier}
 use Rattle.objects_written.specs.objects_payload.ObjectText.{SignerFields}
 use Rattle.objects_written.specs.Attributes.{IsMessage, ToSign, WritesAttributes, attributes_of}

@@ -3,9 +3,6 @@
 ghost use Rattle.std.specs.Prelude.{◌≡◌, ◌↔◌, ◌++◌, ◌∷◌, [], All, IfErr, IfOk, IsTrue, OnOk, map};
 ghost use Rattle.objects_written.specs.bcder_primitive.declared.written.error.EncodeError.TheVariants.{Memory as memory_lacks};
 ghost use Rattle.objects_written.specs.bcder_tree.declared.mode.Mode.TheVariants.{Der};
-ghost use Rattle.objects_written.specs.objects_payload.ObjectText.{signer_of};
-ghost use Rattle.objects_rta.specs.objects_cms.Signer.{signer_fields};
-ghost use Rattle.certs_cert.specs.Whole.{signed_of};
 ghost use Rattle.objects_rta.specs.MultiText.{Multi};
 ghost use Rattle.objects_rta_written.specs.Again.{AgainRefused, AreCarriedInDer, IsCertInDer, IsCrlInDer, IsSignerInDer, PartsRefused, SignersRefused, StandsInDer, WritesAgain, parts_of, signer_parts, signers_seen};
 ghost use Rattle.objects_rta_written.specs.Frames.{cert as cert_output, crl as crl_output, data_fields, lists, object as written_object, signed_data};

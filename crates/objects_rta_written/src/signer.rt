@@ -11,14 +11,14 @@ ghost use Rattle.objects_written.specs.Frames.{signer};
 ghost use Rattle.objects_rta.specs.certs_x509.Took.{TookOctets};
 ghost use Rattle.objects_rta.specs.objects_cms.Signer.{IsSigner, signer_fields};
 ghost use Rattle.objects_rta_written.specs.Again.{signer_parts};
-ghost use Rattle.objects_rta_written.specs.Taking.{DerRefused};
+ghost use Rattle.objects_written.specs.Taking.{DerRefused};
 
-use crate::der::in_der;
 use certs::written::{EncodeError, Time, Values};
 use certs_key::decode::{Constructed, DecodeError, Source};
 use certs_key::{Captured, KeyIdentifier, Mode, OctetString};
 use objects_rta::SignerInfo;
 use objects_rta::signers::take_opt_signer;
+use objects_written::der::in_der;
 use objects_written::frame::SignerValue;
 use std::alloc::Global;
 use std::io::Write;

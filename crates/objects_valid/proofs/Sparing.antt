@@ -33,11 +33,6 @@ spared_below before after good given now issuer own c (Err (Inspection t)) e f b
 spared_below before after good given now issuer own c (Err (Verification x)) e f b = λ m.
     inr (subst (λ (v : Verdicts). IsSignedAt v now issuer.cert own) e (subst (λ (y : CertValue). IsSignedAt given now issuer.cert y) f (b.1 (told_inside x Memory m))))
 
--- The object is the one that was handed on.
-pub spared_same : {before after : ℕ} (good : Verdicts) (now : ℕ) (issuer : CertValue) (s o : Object) (e : ValidationError)
-    → s ≡ o → SparesMemory before after (IsSignedAt good now issuer s.cert) e → SparesMemory before after (IsSignedAt good now issuer o.cert) e
-spared_same {before} {after} good now issuer s o e same h = subst (λ (p : Object). SparesMemory before after (IsSignedAt good now issuer p.cert) e) same h
-
 pub spared_alike : {A : Type 0} (before after : ℕ) (good : Verdicts) (now : ℕ) (issuer : CertValue) (s o : Object) (r : Result A ValidationError)
     → s ≡ o → IfErr r (SparesMemory before after (IsSignedAt good now issuer s.cert)) → IfErr r (SparesMemory before after (IsSignedAt good now issuer o.cert))
 spared_alike {A} before after good now issuer s o r same h = subst (λ (p : Object). IfErr r (SparesMemory before after (IsSignedAt good now issuer p.cert))) same h

@@ -63,7 +63,9 @@ abbrev pub PassesTest : Test → Type 0
 PassesTest says = says (Ok tt)
 
 abbrev pub TellsCause : ValidationError → ValidationError → Type 0
-TellsCause cause e = ((e ≡ Verification Refused) × (cause ≢ Verification Memory)) ⊎ ((e ≡ Verification Memory) × (cause ≡ Verification Memory))
+TellsCause cause e =
+    ((e ≡ Verification Refused) × (cause ≢ Verification Memory))
+    ⊎ ((e ≡ Verification Memory) × (cause ≡ Verification Memory))
 
 abbrev pub FailsTest : Test → ValidationError → Type 0
 FailsTest says e = (cause : ValidationError) × says (Err cause) × TellsCause cause e
@@ -100,11 +102,8 @@ abbrev pub PassesRoa : Test → Roa → Passing
 PassesRoa says x h = PassesTest says × CoversRoa x h
 
 abbrev pub FailsRoa : Test → Roa → Failing
-FailsRoa says x h e = FailsTest says e ⊎ (PassesTest says × ((e ≡ Verification Uncovered) × (CoversRoa x h → ⊥)))
-
-abbrev pub ProcessesRoa : Test → Digests → Verdicts → Bool → ℕ → HolderValue → KindValue Roa
-    → Result (ResourceCertValue × Roa) ValidationError → Type 0
-ProcessesRoa = ProcessesKind Ee PassesRoa FailsRoa
+FailsRoa says x h e =
+    FailsTest says e ⊎ (PassesTest says × ((e ≡ Verification Uncovered) × (CoversRoa x h → ⊥)))
 
 -- A provider attestation: that the customer is held, then the caller's test (draft-ietf-sidrops-aspa-profile 4).
 abbrev pub CoversAspa : Aspa → HolderValue → Type 0
@@ -114,8 +113,5 @@ abbrev pub PassesAspa : Test → Aspa → Passing
 PassesAspa says x h = CoversAspa x h × PassesTest says
 
 abbrev pub FailsAspa : Test → Aspa → Failing
-FailsAspa says x h e = ((e ≡ Verification Uncovered) × (CoversAspa x h → ⊥)) ⊎ (CoversAspa x h × FailsTest says e)
-
-abbrev pub ProcessesAspa : Test → Digests → Verdicts → Bool → ℕ → HolderValue → KindValue Aspa
-    → Result (ResourceCertValue × Aspa) ValidationError → Type 0
-ProcessesAspa = ProcessesKind Ee PassesAspa FailsAspa
+FailsAspa says x h e =
+    ((e ≡ Verification Uncovered) × (CoversAspa x h → ⊥)) ⊎ (CoversAspa x h × FailsTest says e)

@@ -1,6 +1,6 @@
 -- Resources that a signed document states: what it lists itself, never what an issuer has (RFC 9323 4.1).
 use Rattle.std.specs.Prelude.{◌≡◌, ◌≢◌, ℕ, List, Option, Some, None}
-use Rattle.objects_cms.specs.bcder_content.Grammar.{As, End, Inside, Opt, Such, Then}
+use Rattle.objects_cms.specs.bcder_content.Grammar.{As, End, Inside, Opt, Where, Then}
 use Rattle.resources_ip.specs.bcder_tree.declared.mode.Mode.{Mode}
 use Rattle.resources_ip.specs.bcder_tree.Tags.{context, sequence_tag}
 use Rattle.resources_ip.specs.bcder_tree.Tree.{Tree, Trees}
@@ -39,7 +39,7 @@ AreListed x = (x.v4 ≢ Inherit) × (x.v6 ≢ Inherit)
 
 -- IPAddrBlocks without `inherit`: one family at least, and each at most once (RFC 9323 4.1.2).
 abbrev pub AreStatedFamilies : Mode → Tree → FamilyChoices → Type 0
-AreStatedFamilies m = Such (IsIpAddrBlocks m) AreListed
+AreStatedFamilies m = Where (IsIpAddrBlocks m) AreListed
 
 -- asID [0] EXPLICIT OPTIONAL, ipAddrBlocks [1] EXPLICIT OPTIONAL
 abbrev pub Parts : Type 0

@@ -1,6 +1,6 @@
 //! Provider attestations (draft-ietf-sidrops-aspa-profile 4).
 
-ghost use Rattle.std.specs.Prelude.{◌≡◌, ◌↔◌, IsTrue};
+ghost use Rattle.std.specs.Prelude.{◌↔◌, IsTrue};
 ghost use Rattle.objects_valid.specs.Processed.{CoversAspa, FailsAspa, PassesAspa};
 ghost use Rattle.objects_valid.specs.certs_extension.declared.forms.Role.TheVariants.{Ee};
 

@@ -12,6 +12,7 @@ ghost use Rattle.objects_valid.specs.Accepted.{SparesMemory, ValidatesContent, V
 ghost use Rattle.objects_valid.specs.Content.{VerifiesSound};
 
 use crate::kinds::SignedObject;
+use crate::terms::Terms;
 use crate::together::join;
 use certs_verify::{
     Cert, Digester, InspectionError, Refused, ResourceCert, ValidationError, VerificationError,
@@ -119,28 +120,29 @@ pub(crate) fn validate<D: Digester, V: Verifier>(
     signed: SignedObject,
     form: Result<(), InspectionError>,
     issuer: &ResourceCert,
-    strict: bool,
-    now: Time,
-    digester: &D,
-    verifier: &mut V,
+    terms: &mut Terms<'_, D, V>,
 ) -> Result<(ResourceCert, OctetString), ValidationError>
     ensures validates { (role : Role)
-        → Inspects (digests_of D.sha256_digest D.sha1_digest digester.now) strict role
-        signed.cert form
-        → ValidatesContent (digests_of D.sha256_digest D.sha1_digest digester.now)
-        (V.says verifier.old) strict role now issuer.now.holder signed signed.content result }
+        → Inspects (digests_of D.sha256_digest D.sha1_digest terms.old.digester.now)
+        terms.old.strict role signed.cert form
+        → ValidatesContent (digests_of D.sha256_digest D.sha1_digest terms.old.digester.now)
+        (V.says terms.old.verifier.now) terms.old.strict role terms.old.moment
+        issuer.now.holder signed signed.content result }
     ensures tal { IfOk result (λ p. p.0.tal ≡ issuer.now.tal) }
     ensures outside { IfErr result (TellsNumbers signed.cert (held_by issuer.now.holder)) }
     ensures memory { IfErr result (SparesMemory
-        (V.count verifier.old) (V.count verifier.new)
-        (IsSignedAt (V.says verifier.old) now issuer.now.holder.cert signed.cert)) }
-    ensures same { V.says verifier.new ≡ V.says verifier.old }
-    ensures asked { V.count verifier.new ≤ V.count verifier.old + 2 }
+        (V.count terms.old.verifier.now) (V.count terms.new.verifier.now)
+        (IsSignedAt (V.says terms.old.verifier.now) terms.old.moment
+        issuer.now.holder.cert signed.cert)) }
+    ensures same { V.says terms.new.verifier.now ≡ V.says terms.old.verifier.now }
+    ensures lent { terms.new.verifier.ghost_name ≡ terms.old.verifier.ghost_name }
+    ensures asked { V.count terms.new.verifier.now ≤ V.count terms.old.verifier.now + 2 }
 {
-    match verify_signed(alloc, &signed, form, digester, verifier) {
+    match verify_signed(alloc, &signed, form, terms.digester, terms.verifier) {
         Ok(()) => {
             let (cert, content) = split(signed);
-            let validated = verify_below(alloc, cert, issuer, strict, now, verifier);
+            let (strict, moment) = (terms.strict, terms.moment);
+            let validated = verify_below(alloc, cert, issuer, strict, moment, terms.verifier);
             join(content, validated)
         }
         Err(error) => {

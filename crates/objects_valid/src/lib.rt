@@ -27,6 +27,7 @@ pub mod object;
 pub mod process;
 pub mod roa;
 pub mod stated;
+mod terms;
 mod together;
 
 pub use attested::Attested;

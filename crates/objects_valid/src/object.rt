@@ -11,6 +11,7 @@ ghost use Rattle.objects_valid.specs.Accepted.{SparesMemory, ValidatesContent, V
 ghost use Rattle.objects_valid.specs.Processed.{CallableIfAccepted, ProcessesObject};
 
 use crate::kinds::SignedObject;
+use crate::terms::Terms;
 use crate::{caller, inspected, together};
 use certs_verify::{Cert, Digester, Inspect, ResourceCert, ValidationError, Verifier};
 use certs_x509::errors::{Clock, Time};
@@ -185,24 +186,24 @@ fn accepted<D: Digester, V: Verifier>(
     alloc: Global,
     signed: SignedObject,
     issuer: &ResourceCert,
-    strict: bool,
-    now: Time,
-    digester: &D,
-    verifier: &mut V,
+    terms: &mut Terms<'_, D, V>,
 ) -> Result<(ResourceCert, OctetString), ValidationError>
     ensures validates { ValidatesContent
-        (digests_of D.sha256_digest D.sha1_digest digester.now) (V.says verifier.old)
-        strict Ee now issuer.now.holder signed signed.content result }
+        (digests_of D.sha256_digest D.sha1_digest terms.old.digester.now)
+        (V.says terms.old.verifier.now) terms.old.strict Ee terms.old.moment
+        issuer.now.holder signed signed.content result }
     ensures tal { IfOk result (λ p. p.0.tal ≡ issuer.now.tal) }
     ensures outside { IfErr result (TellsNumbers signed.cert (held_by issuer.now.holder)) }
     ensures memory { IfErr result (SparesMemory
-        (V.count verifier.old) (V.count verifier.new)
-        (IsSignedAt (V.says verifier.old) now issuer.now.holder.cert signed.cert)) }
-    ensures same { V.says verifier.new ≡ V.says verifier.old }
-    ensures asked { V.count verifier.new ≤ V.count verifier.old + 2 }
+        (V.count terms.old.verifier.now) (V.count terms.new.verifier.now)
+        (IsSignedAt (V.says terms.old.verifier.now) terms.old.moment
+        issuer.now.holder.cert signed.cert)) }
+    ensures same { V.says terms.new.verifier.now ≡ V.says terms.old.verifier.now }
+    ensures lent { terms.new.verifier.ghost_name ≡ terms.old.verifier.ghost_name }
+    ensures asked { V.count terms.new.verifier.now ≤ V.count terms.old.verifier.now + 2 }
 {
-    let form = signed.cert().inspect_ee(strict, digester);
-    inspected::validate(alloc, signed, form, issuer, strict, now, digester, verifier)
+    let form = signed.cert().inspect_ee(terms.strict, terms.digester);
+    inspected::validate(alloc, signed, form, issuer, terms)
 }
 
 impl ProcessObject for SignedObject {
@@ -217,7 +218,13 @@ impl ProcessObject for SignedObject {
         digester: &D,
         verifier: &mut V,
     ) -> Result<ResourceCert, ValidationError> {
-        let validated = accepted(alloc, self, issuer, strict, now, digester, verifier);
+        let mut terms = Terms {
+            strict,
+            moment: now,
+            digester,
+            verifier,
+        };
+        let validated = accepted(alloc, self, issuer, &mut terms);
         together::part(validated)
     }
 
@@ -231,9 +238,13 @@ impl ProcessObject for SignedObject {
         verifier: &mut V,
     ) -> Result<ResourceCert, ValidationError> {
         let form = self.cert().inspect_detached_ee(strict, digester);
-        let validated = inspected::validate(
-            alloc, self, form, issuer, strict, now, digester, verifier,
-        );
+        let mut terms = Terms {
+            strict,
+            moment: now,
+            digester,
+            verifier,
+        };
+        let validated = inspected::validate(alloc, self, form, issuer, &mut terms);
         together::part(validated)
     }
 
@@ -247,7 +258,13 @@ impl ProcessObject for SignedObject {
         verifier: &mut V,
         check_crl: F,
     ) -> Result<(ResourceCert, OctetString), ValidationError> {
-        match accepted(alloc, self, issuer, strict, now, digester, verifier) {
+        let mut terms = Terms {
+            strict,
+            moment: now,
+            digester,
+            verifier,
+        };
+        match accepted(alloc, self, issuer, &mut terms) {
             Ok((holder, content)) => {
                 let tested = caller::ask(check_crl, holder.as_cert());
                 together::join_if(holder, content, tested)

@@ -10,6 +10,7 @@ ghost use Rattle.objects_valid.specs.Processed.{CallableAfter, ProcessesKind};
 
 use crate::attested::Attested;
 use crate::kinds::{Signed, SignedObject};
+use crate::terms::Terms;
 use crate::{inspected, together};
 use certs_verify::{Cert, Digester, ResourceCert, ValidationError, Verifier};
 use certs_x509::errors::{Clock, Time};
@@ -20,26 +21,24 @@ fn accepted<T: Attested, D: Digester, V: Verifier>(
     alloc: Global,
     signed: SignedObject,
     issuer: &ResourceCert,
-    strict: bool,
-    now: Time,
-    digester: &D,
-    verifier: &mut V,
+    terms: &mut Terms<'_, D, V>,
 ) -> Result<ResourceCert, ValidationError>
     ensures validates { ValidatesObject
-        (digests_of D.sha256_digest D.sha1_digest digester.now) (V.says verifier.old)
-        strict T.role now issuer.now.holder signed result }
+        (digests_of D.sha256_digest D.sha1_digest terms.old.digester.now)
+        (V.says terms.old.verifier.now) terms.old.strict T.role terms.old.moment
+        issuer.now.holder signed result }
     ensures tal { IfOk result (λ r. r.tal ≡ issuer.now.tal) }
     ensures outside { IfErr result (TellsNumbers signed.cert (held_by issuer.now.holder)) }
     ensures memory { IfErr result (SparesMemory
-        (V.count verifier.old) (V.count verifier.new)
-        (IsSignedAt (V.says verifier.old) now issuer.now.holder.cert signed.cert)) }
-    ensures same { V.says verifier.new ≡ V.says verifier.old }
-    ensures asked { V.count verifier.new ≤ V.count verifier.old + 2 }
+        (V.count terms.old.verifier.now) (V.count terms.new.verifier.now)
+        (IsSignedAt (V.says terms.old.verifier.now) terms.old.moment
+        issuer.now.holder.cert signed.cert)) }
+    ensures same { V.says terms.new.verifier.now ≡ V.says terms.old.verifier.now }
+    ensures lent { terms.new.verifier.ghost_name ≡ terms.old.verifier.ghost_name }
+    ensures asked { V.count terms.new.verifier.now ≤ V.count terms.old.verifier.now + 2 }
 {
-    let form = T::inspect(signed.cert(), strict, digester);
-    let validated = inspected::validate(
-        alloc, signed, form, issuer, strict, now, digester, verifier,
-    );
+    let form = T::inspect(signed.cert(), terms.strict, terms.digester);
+    let validated = inspected::validate(alloc, signed, form, issuer, terms);
     together::part(validated)
 }
 
@@ -85,7 +84,13 @@ impl<T: Attested> Signed<T> {
         ensures asked { V.count verifier.new ≤ V.count verifier.old + 2 }
     {
         let (signed, content) = self.into_parts();
-        match accepted::<T, D, V>(alloc, signed, issuer, strict, now, digester, verifier) {
+        let mut terms = Terms {
+            strict,
+            moment: now,
+            digester,
+            verifier,
+        };
+        match accepted::<T, D, V>(alloc, signed, issuer, &mut terms) {
             Ok(holder) => {
                 let tested = content.test(alloc, &holder, check_crl);
                 together::join_if(holder, content, tested)

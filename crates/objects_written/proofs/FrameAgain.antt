@@ -25,28 +25,28 @@ use Rattle.objects_written.specs.Attributes.{ToSign, attributes_of}
 use Rattle.objects_written.specs.Frames.{AreParts, ObjectParts, SignerParts, algorithm, content_info, kept, object, object_with, rsa, sha256, signed_data, signer}
 use Rattle.objects_written.proofs.Again.{attributes_again}
 
--- Words: grammars of octets.
+-- Grammars of octets, word by word.
 
-wraps_of : {A : Type 0} {tag : TagValue} (Q : List ℕ → A → Type 0) {x : A} {P : List ℕ → Type 0} → ((o : List ℕ) → P o → Q o x) → (text : List ℕ) → WritesWrapped Der tag P text → Wraps Der tag Q text x
+pub wraps_of : {A : Type 0} {tag : TagValue} (Q : List ℕ → A → Type 0) {x : A} {P : List ℕ → Type 0} → ((o : List ℕ) → P o → Q o x) → (text : List ℕ) → WritesWrapped Der tag P text → Wraps Der tag Q text x
 wraps_of Q f text w = record { content = w.content; around = w.spelled; is = f w.content w.is }
 
-joins_of : {A B : Type 0} {Q : List ℕ → A → Type 0} {R : List ℕ → B → Type 0} {x : A} {y : B} {P S : List ℕ → Type 0} → ((o : List ℕ) → P o → Q o x) → ((o : List ℕ) → S o → R o y)
+pub joins_of : {A B : Type 0} {Q : List ℕ → A → Type 0} {R : List ℕ → B → Type 0} {x : A} {y : B} {P S : List ℕ → Type 0} → ((o : List ℕ) → P o → Q o x) → ((o : List ℕ) → S o → R o y)
     → (text : List ℕ) → WritesBoth P S text → Joins Q R text (x, y)
 joins_of f g text w = record { first = w.first; others = w.second; whole = w.whole; is = f w.first w.is_first; rest = g w.second w.is_second }
 
-ends_of : {A : Type 0} {Q : List ℕ → A → Type 0} {x : A} {P : List ℕ → Type 0} → ((o : List ℕ) → P o → Q o x) → (text : List ℕ) → P text → Joins Q NoOctets text (x, tt)
+pub ends_of : {A : Type 0} {Q : List ℕ → A → Type 0} {x : A} {P : List ℕ → Type 0} → ((o : List ℕ) → P o → Q o x) → (text : List ℕ) → P text → Joins Q NoOctets text (x, tt)
 ends_of f text w = record { first = text; others = []; whole = sym (append-nil text); is = f text w; rest = record { none = refl } }
 
 -- One value, as its trees say.
-by_trees : {A : Type 0} {Q : Tree → A → Type 0} {x : A} (o : Output) → ((ts : Trees) → o.trees Der ts → Alone Q x ts) → (text : List ℕ) → o.writes Der text → SpellsOf Der Q text x
+pub by_trees : {A : Type 0} {Q : Tree → A → Type 0} {x : A} (o : Output) → ((ts : Trees) → o.trees Der ts → Alone Q x ts) → (text : List ℕ) → o.writes Der text → SpellsOf Der Q text x
 by_trees o f text w = let s = o.spelled Der text w in spelled_of Der (record { trees = s.trees; is = f s.trees s.is; spelled = s.spelled })
 
 -- The constants.
 
-three_spelled : (text : List ℕ) → (version 3).writes Der text → SpellsOf Der IsThree text tt
+pub three_spelled : (text : List ℕ) → (version 3).writes Der text → SpellsOf Der IsThree text tt
 three_spelled = by_trees (version 3) (λ ts p. record { tree = primitive integer_tag p.content; alone = p.whole; is = record { content = p.content; whole = refl; is = record { is = p.is.is } } })
 
-only : {A : Type 0} {Q : Tree → A → Type 0} {x : A} {ts : Trees} → Then Q End ts (x, tt) → Alone Q x ts
+pub only : {A : Type 0} {Q : Tree → A → Type 0} {x : A} {ts : Trees} → Then Q End ts (x, tt) → Alone Q x ts
 only p = record { tree = p.first; alone = p.whole ∙ ap (more p.first) p.rest.ended; is = p.is }
 
 sha256_spelled : (text : List ℕ) → (algorithm sha256).writes Der text → SpellsOf Der id.IsDigestAlgorithm text tt
@@ -55,15 +55,15 @@ sha256_spelled text w = let s = digest_spelled Der text w in spelled_of Der (rec
 rsa_spelled : (text : List ℕ) → (algorithm rsa).writes Der text → SpellsOf Der id.IsSignatureAlgorithm text true
 rsa_spelled text w = let s = cms_spelled Der text w in spelled_of Der (record { trees = s.trees; is = only s.is; spelled = s.spelled })
 
-sha256_set_spelled : (text : List ℕ) → WritesWrapped Der set_tag ((algorithm sha256).writes Der) text → SpellsOf Der AreDigestAlgorithms text (tt, tt)
+pub sha256_set_spelled : (text : List ℕ) → WritesWrapped Der set_tag ((algorithm sha256).writes Der) text → SpellsOf Der AreDigestAlgorithms text (tt, tt)
 sha256_set_spelled text w = let s = digests_spelled Der text w in spelled_of Der (record { trees = s.trees; is = only s.is; spelled = s.spelled })
 
-signed_data_spelled : (text : List ℕ) → (of oid id.signed_data).writes Der text → SpellsOf Der (id.TheOid id.signed_data) text tt
+pub signed_data_spelled : (text : List ℕ) → (of oid id.signed_data).writes Der text → SpellsOf Der (id.TheOid id.signed_data) text tt
 signed_data_spelled = by_trees (of oid id.signed_data) (λ ts p. record { tree = primitive oid_tag p.content; alone = p.whole; is = record { content = p.content; whole = refl; is = record { same = p.is.same } } })
 
 -- Strings.
 
-string_alone : (tag : TagValue) (v : List ℕ) (ts : Trees) → (of (octets_at tag) v).trees Der ts → ts ≡ more (primitive tag v) none
+pub string_alone : (tag : TagValue) (v : List ℕ) (ts : Trees) → (of (octets_at tag) v).trees Der ts → ts ≡ more (primitive tag v) none
 string_alone tag v ts p = p.whole ∙ ap (λ (o : List ℕ). more (primitive tag o) none) p.is.same
 
 string_spelled : (v text : List ℕ) → (of octets v).writes Der text → SpellsOf Der (IsOctetString Der) text v
@@ -80,7 +80,7 @@ type_alone v known ts p = record {
   is = record { content = p.content; whole = refl; is = record { same = p.is.same; is = subst IsIdentifier (sym p.is.same) known } };
 }
 
-content_spelled : (kind content : List ℕ) → IsIdentifier kind → (text : List ℕ) → (content_info kind content).writes Der text → SpellsOf Der (IsContentInfo Der) text (kind, ((content, tt), tt))
+pub content_spelled : (kind content : List ℕ) → IsIdentifier kind → (text : List ℕ) → (content_info kind content).writes Der text → SpellsOf Der (IsContentInfo Der) text (kind, ((content, tt), tt))
 content_spelled kind content known = by_trees (content_info kind content) (λ ts p.
     inside_of (Then (OctetsOf oid_tag IsOid) (Then (Inside (context 0) (Then (IsOctetString Der) End)) End))
     (then_of (type_alone kind known) (last_of (inside_of (Then (IsOctetString Der) End) (last_of (λ us q. record { tree = primitive octet_string_tag content; alone = string_alone octet_string_tag content us q; is = refl })))))
@@ -88,13 +88,13 @@ content_spelled kind content known = by_trees (content_info kind content) (λ ts
 
 -- The signer.
 
-abbrev signs : SignerParts → AttributesValue → Signs
+abbrev pub signs : SignerParts → AttributesValue → Signs
 signs s a = (tt, (s.sid, (tt, ((s.attributes.octets, a), (true, (s.signature, tt))))))
 
 kept_attributes : (c : CapturedValue) (a : AttributesValue) → InOrder Der (AreAttributes Der) c.octets a → (text : List ℕ) → (kept c).writes Der text → WithOctets (InOrder Der (AreAttributes Der)) text (c.octets, a)
 kept_attributes c a is text w = record { same = sym w.whole; is = subst (λ (o : List ℕ). InOrder Der (AreAttributes Der) o a) (sym w.whole) is }
 
-signer_spelled : (s : SignerParts) (a : AttributesValue) → IsTwentyLong s.sid → InOrder Der (AreAttributes Der) s.attributes.octets a → (text : List ℕ) → (signer s).writes Der text → SpellsSigner Der text (signs s a)
+pub signer_spelled : (s : SignerParts) (a : AttributesValue) → IsTwentyLong s.sid → InOrder Der (AreAttributes Der) s.attributes.octets a → (text : List ℕ) → (signer s).writes Der text → SpellsSigner Der text (signs s a)
 signer_spelled s a long is =
     wraps_of _
     (joins_of three_spelled
@@ -106,7 +106,7 @@ signer_spelled s a long is =
 
 -- The data.
 
-abbrev signed_of : ObjectParts → CertValue → AttributesValue → Signed
+abbrev pub signed_of : ObjectParts → CertValue → AttributesValue → Signed
 signed_of o c a = (tt, ((tt, tt), ((o.content_type, ((o.content, tt), tt)), ((c, tt), ((signs o.signer a, tt), tt)))))
 
 kept_cert : (k : CapturedValue) (c : CertValue) → SpellsCert Der k.octets c → (text : List ℕ) → (kept k).writes Der text → SpellsCert Der text c
@@ -123,7 +123,7 @@ signed_spelled o c a known cert long is =
     (joins_of (wraps_of _ (ends_of (kept_cert o.cert c cert)))
     (ends_of (wraps_of _ (ends_of (signer_spelled o.signer a long is))))))))
 
-info_spelled : (o : ObjectParts) (c : CertValue) (a : AttributesValue) → IsIdentifier o.content_type → SpellsCert Der o.cert.octets c → IsTwentyLong o.signer.sid
+pub info_spelled : (o : ObjectParts) (c : CertValue) (a : AttributesValue) → IsIdentifier o.content_type → SpellsCert Der o.cert.octets c → IsTwentyLong o.signer.sid
     → InOrder Der (AreAttributes Der) o.signer.attributes.octets a → (text : List ℕ) → (object o).writes Der text → SpellsContentInfo Der text (tt, ((signed_of o c a, tt), tt))
 info_spelled o c a known cert long is =
     wraps_of _ (joins_of signed_data_spelled (ends_of (wraps_of _ (ends_of (signed_spelled o c a known cert long is)))))

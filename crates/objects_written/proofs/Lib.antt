@@ -18,3 +18,4 @@ pub mod Building
 pub mod KindAgain
 pub mod Refused
 pub mod Setting
+pub mod Taking

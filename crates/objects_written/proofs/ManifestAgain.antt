@@ -12,7 +12,7 @@ use Rattle.objects_written.specs.bcder_octets.BitContents.{IsBitString, cleared}
 use Rattle.objects_written.specs.bcder.Sets.{alone}
 use Rattle.objects_written.specs.bcder.Restricted.{IsRestricted}
 use Rattle.objects_written.specs.bcder_content.Contents.{tag_of}
-use Rattle.objects_written.specs.bcder_content.Grammar.{End, Many, ManyCases, OctetsOf, Such, Then, Without}
+use Rattle.objects_written.specs.bcder_content.Grammar.{End, Many, ManyCases, OctetsOf, Where, Then, Without}
 use Rattle.objects_written.specs.bcder_content.Texts.{SpellsOf}
 use Rattle.certs_key.proofs.of_bcder.Ascii.{ascii_text}
 use Rattle.certs_key.proofs.of_bcder_content.Unique.{same_trees}
@@ -52,10 +52,10 @@ name_ia5 name n =
     (All-cons IsIa5 46 n.extension (omega arith) (All-weaker IsLetter IsIa5 letter_ia5 n.extension n.extension_is)))
 
 abbrev IsName : Tree → List ℕ → Type 0
-IsName = Such (IsRestricted IsIa5 alone Der ia5_string_tag) IsFileName
+IsName = Where (IsRestricted IsIa5 alone Der ia5_string_tag) IsFileName
 
 abbrev IsHash : Tree → BitsValue → Type 0
-IsHash = Such (OctetsOf (universal 3) (IsBitString Der)) IsWhole
+IsHash = Where (OctetsOf (universal 3) (IsBitString Der)) IsWhole
 
 name_alone : (name : List ℕ) → IsFileName name → (ts : Trees) → (file_name name).trees Der ts → Alone IsName name ts
 name_alone name n ts p = record {

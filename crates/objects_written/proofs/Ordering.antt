@@ -1,26 +1,7 @@
 -- The order of octets.
-use Rattle.std.proofs.Common.{◌≡◌, ◌≢◌, ◌<◌, ◌↔◌, ℕ, Bool, true, false, IsTrue, MatchBool, List, [], ◌∷◌, inl, inr, refl, sym, subst, arith}
+use Rattle.std.proofs.Common.{◌≡◌, ◌↔◌, ℕ, Bool, true, false, IsTrue, MatchBool, List, [], ◌∷◌, inl, inr, refl, sym, subst, arith}
 use Rattle.std.proofs.lemmas.Bool.{cases_lt}
-use Rattle.objects_written.specs.Orders.{IsOrdered, behind, front}
-
--- Equal octets in front tell nothing, others all.
-pub same_front : (a : ℕ) (v w : List ℕ) → a ≡ front w → IsOrdered (a ∷ v) w ↔ IsOrdered v (behind w)
-same_front a v w e = (
-  λ p. elim p [
-    | inl less ↦ absurd (omega (arith, e, less))
-    | inr q ↦ q.1
-  ],
-  λ q. inr (e, q),
-)
-
-pub other_front : (a : ℕ) (v w : List ℕ) → a ≢ front w → IsOrdered (a ∷ v) w ↔ (a < front w)
-other_front a v w n = (
-  λ p. elim p [
-    | inl less ↦ less
-    | inr q ↦ absurd (n q.0)
-  ],
-  λ less. inl less,
-)
+use Rattle.objects_written.specs.Orders.{IsOrdered}
 
 -- Of two one doesn't come after the other.
 pub turned : (v w : List ℕ) → (IsOrdered v w → ⊥) → IsOrdered w v

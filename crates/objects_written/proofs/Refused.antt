@@ -123,7 +123,7 @@ pub enclosed_refused : {E : Type 0} (cannot : Type 0) (e : EncodeError) (x : Sig
 enclosed_refused {E} cannot e x same r = subst (BuildRefused {E = E} (λ y. ⊥) (Unit {0}) cannot) (sym same) (not_enclosed E cannot e r)
 
 -- Whoever asks no signer refuses as one who asks.
-unasked : {E : Type 0} (refuses : SigningError E → Type 0) (can cannot less : Type 0) → (cannot → less) → (e : SigningError E) → BuildRefused {E = E} (λ y. ⊥) can cannot e → BuildRefused refuses can less e
+pub unasked : {E : Type 0} (refuses : SigningError E → Type 0) (can cannot less : Type 0) → (cannot → less) → (e : SigningError E) → BuildRefused {E = E} (λ y. ⊥) can cannot e → BuildRefused refuses can less e
 unasked refuses can cannot less g errors.KeyNotFound r = absurd r
 unasked refuses can cannot less g errors.IncompatibleKey r = absurd r
 unasked refuses can cannot less g (errors.Signer e) r = absurd r

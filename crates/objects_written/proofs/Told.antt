@@ -1,25 +1,14 @@
 -- What calls answer, in terms of what is written.
-use Rattle.std.proofs.Common.{◌≡◌, List, [], ◌∷◌, Option, Some, None, Result, Ok, Err, IfOk, refl, sym, subst}
+use Rattle.std.proofs.Common.{Result, Ok, Err, IfOk}
 use Rattle.objects_written.specs.bcder_tree.declared.mode.Mode.TheVariants.{Der}
 use Rattle.objects_written.specs.bcder_content.Kept.{CapturedValue}
 use Rattle.objects_written.specs.bcder_content.Texts.{SpellsOf}
-use Rattle.objects_written.specs.resources_ip_prefix.declared.addr.AddressFamily.{AddressFamily}
 use Rattle.objects_written.specs.objects_payload.Manifests.{IsManifest, Manifest}
-use Rattle.objects_written.specs.objects_payload.Roas.{FamilyAddresses, IsRoa, Roa, RoaAddress}
+use Rattle.objects_written.specs.objects_payload.Roas.{IsRoa, Roa}
 use Rattle.objects_written.specs.Manifests.{AreFileNames, IsManifestNumber, manifest}
-use Rattle.objects_written.specs.Roas.{AreOfFamilies, HasAddress, roa, shown}
+use Rattle.objects_written.specs.Roas.{AreOfFamilies, HasAddress, roa}
 use Rattle.objects_written.proofs.ManifestAgain.{manifest_text}
 use Rattle.objects_written.proofs.RoaAgain.{PrefixIsRead, roa_text}
-
-pub shown_none : (f : AddressFamily) (xs : List RoaAddress) → xs ≡ [] → None ≡ shown f xs
-shown_none f xs e = subst (λ (l : List RoaAddress). None ≡ shown f l) (sym e) refl
-
-abbrev family_with : AddressFamily → List RoaAddress → Option FamilyAddresses
-family_with f xs = Some (record { family = f; addresses = xs })
-
-pub shown_some : (f : AddressFamily) (xs : List RoaAddress) → (xs ≡ [] → ⊥) → family_with f xs ≡ shown f xs
-shown_some f [] n = absurd (n refl)
-shown_some f (x ∷ xs) n = refl
 
 pub roa_told : {E : Type 0} → PrefixIsRead → (r : Roa) → AreOfFamilies r → (result : Result CapturedValue E) → IfOk result (λ c. (roa r).writes Der c.octets) → IfOk result (λ c. HasAddress r → SpellsOf Der IsRoa c.octets r)
 roa_told read r all (Ok c) h = λ some. roa_text read r c.octets some all h

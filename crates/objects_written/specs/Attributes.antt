@@ -19,10 +19,16 @@ pub record ToSign : Type 0 where
   pub time : ℕ
 
 abbrev pub to_sign : List ℕ → List ℕ → ℕ → ToSign
-to_sign content_type digest time = record { content_type = content_type; digest = digest; time = time }
+to_sign content_type digest time =
+    record { content_type = content_type; digest = digest; time = time }
 
 abbrev pub attributes_of : ToSign → AttributesValue
-attributes_of s = record { content_type = s.content_type; digest = s.digest; signing_time = Some s.time; binary_signing_time = None }
+attributes_of s = record {
+  content_type = s.content_type;
+  digest = s.digest;
+  signing_time = Some s.time;
+  binary_signing_time = None;
+}
 
 -- Attribute ::= SEQUENCE { attrType OBJECT IDENTIFIER, attrValues SET OF AttributeValue }, of one value (RFC 5652 5.3)
 abbrev pub attribute : List ℕ → Output → Output
@@ -64,6 +70,7 @@ pub record IsMessage (attributes message : List ℕ) : Type 0 where
 -- Why attributes in DER have no message: there is none whose octets can be counted, or no memory.
 abbrev pub MessageRefused : List ℕ → EncodeError → Type 0
 MessageRefused attributes errors.CerUnsupported = ⊥
-MessageRefused attributes errors.TooLong = (message : List ℕ) → IsMessage attributes message → length message < 2 ^ 64 → ⊥
+MessageRefused attributes errors.TooLong =
+    (message : List ℕ) → IsMessage attributes message → length message < 2 ^ 64 → ⊥
 MessageRefused attributes errors.Write = ⊥
 MessageRefused attributes errors.Memory = Unit {0}

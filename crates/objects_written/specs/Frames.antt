@@ -68,7 +68,8 @@ pub record ObjectParts : Type 0 where
 
 -- EncapsulatedContentInfo ::= SEQUENCE { eContentType OBJECT IDENTIFIER, eContent [0] EXPLICIT OCTET STRING } (RFC 5652 5.2)
 abbrev pub content_info : List ℕ → List ℕ → Output
-content_info kind content = inside sequence_tag (beside (of oid kind) (inside (context 0) (of octets content)))
+content_info kind content =
+    inside sequence_tag (beside (of oid kind) (inside (context 0) (of octets content)))
 
 abbrev pub SignedFields : Type 0
 SignedFields = ℕ × (AlgorithmValue × (List ℕ × (List ℕ × (CapturedValue × SignerParts))))

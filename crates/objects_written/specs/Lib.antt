@@ -6,6 +6,7 @@ pub mod Attributes
 pub mod Frames
 pub mod Builders
 pub mod Refusing
+pub mod Taking
 -- What stands below, for the crates above.
 pub use Rattle.certs_key.specs.bcder as bcder
 pub use Rattle.certs_key.specs.bcder_octets as bcder_octets

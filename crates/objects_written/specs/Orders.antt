@@ -20,8 +20,10 @@ IsOrdered (a ∷ v) w = (a < front w) ⊎ ((a ≡ front w) × IsOrdered v (behin
 -- Three are these three, in some order.
 abbrev pub AreThese : {A : Type 0} → A × (A × A) → A → A → A → Type 0
 AreThese t x y z =
-    ((x ≡ t.0) × (y ≡ t.1.0) × (z ≡ t.1.1)) ⊎ ((x ≡ t.0) × (y ≡ t.1.1) × (z ≡ t.1.0)) ⊎ ((x ≡ t.1.1) × (y ≡ t.0) × (z ≡ t.1.0))
-    ⊎ ((x ≡ t.1.0) × (y ≡ t.0) × (z ≡ t.1.1)) ⊎ ((x ≡ t.1.0) × (y ≡ t.1.1) × (z ≡ t.0)) ⊎ ((x ≡ t.1.1) × (y ≡ t.1.0) × (z ≡ t.0))
+    ((x ≡ t.0) × (y ≡ t.1.0) × (z ≡ t.1.1)) ⊎ ((x ≡ t.0) × (y ≡ t.1.1) × (z ≡ t.1.0))
+    ⊎ ((x ≡ t.1.1) × (y ≡ t.0) × (z ≡ t.1.0))
+    ⊎ ((x ≡ t.1.0) × (y ≡ t.0) × (z ≡ t.1.1)) ⊎ ((x ≡ t.1.0) × (y ≡ t.1.1) × (z ≡ t.0))
+    ⊎ ((x ≡ t.1.1) × (y ≡ t.1.0) × (z ≡ t.0))
 
 -- Three encodings, one after the other, ascending.
 pub record SetText (t : List ℕ × (List ℕ × List ℕ)) (text : List ℕ) : Type 0 where

@@ -26,7 +26,9 @@ told_as causes.Memory = errors.Memory
 
 -- The attributes can't be written, or what is signed of them can't (RFC 5652 5.4).
 abbrev pub CannotSign : ToSign → Type 0
-CannotSign s = (Writable (WritesAttributes s) → ⊥) ⊎ ((attributes : List ℕ) × WritesAttributes s attributes × (Writable (IsMessage attributes) → ⊥))
+CannotSign s = (Writable (WritesAttributes s) → ⊥)
+    ⊎ ((attributes : List ℕ) × WritesAttributes s attributes
+    × (Writable (IsMessage attributes) → ⊥))
 
 -- The certificate's fields for these keys can't be written.
 pub record CannotCertify (d : Digests) (b : BuilderValue) (issuer_key key : KeyValue) : Type 0 where
@@ -35,7 +37,8 @@ pub record CannotCertify (d : Digests) (b : BuilderValue) (issuer_key key : KeyV
   pub none : CanBeWritten fields → ⊥
 
 -- The parts of an object are these.
-pub record ArePartsOf (kind content : List ℕ) (cert : CertValue) (attributes : CapturedValue) (signature : List ℕ) (parts : ObjectParts) : Type 0 where
+pub record ArePartsOf (kind content : List ℕ) (cert : CertValue) (attributes : CapturedValue)
+    (signature : List ℕ) (parts : ObjectParts) : Type 0 where
   pub type_is : parts.content_type ≡ kind
   pub content_is : parts.content ≡ content
   pub cert_is : WritesCert cert Der parts.cert.octets
@@ -47,28 +50,36 @@ pub record ArePartsOf (kind content : List ℕ) (cert : CertValue) (attributes :
 abbrev pub CannotEnclose : List ℕ → List ℕ → CertValue → CapturedValue → List ℕ → Type 0
 CannotEnclose kind content cert attributes signature =
     ((e : EncodeError) × (e ≢ causes.Memory) × RefusesCert cert e)
-    ⊎ ((parts : ObjectParts) × ArePartsOf kind content cert attributes signature parts × (Writable ((object parts).writes Der) → ⊥))
+    ⊎ ((parts : ObjectParts) × ArePartsOf kind content cert attributes signature parts
+    × (Writable ((object parts).writes Der) → ⊥))
 
 -- The certificate for these keys can't be made, or nothing can be written around it.
-abbrev pub CannotWrap : Digests → BuilderValue → List ℕ → List ℕ → KeyValue → KeyValue → CapturedValue → List ℕ → Type 0
+abbrev pub CannotWrap : Digests → BuilderValue → List ℕ → List ℕ → KeyValue → KeyValue
+    → CapturedValue → List ℕ → Type 0
 CannotWrap d b kind content issuer_key key attributes signature =
-    CannotCertify d b issuer_key key ⊎ ((cert : CertValue) × AreFieldsOf d b issuer_key key cert.tbs × CannotEnclose kind content cert attributes signature)
+    CannotCertify d b issuer_key key ⊎ ((cert : CertValue)
+    × AreFieldsOf d b issuer_key key cert.tbs
+    × CannotEnclose kind content cert attributes signature)
 
 -- For an issuer with that key nothing can be written of what the signer made: of a key, and of its signature over attributes.
-pub record CannotBuild (d : Digests) (b : BuilderValue) (kind content : List ℕ) (SignsOnce : KeyValue → List ℕ → List ℕ → Type 0) (issuer_key : KeyValue) : Type 0 where
+pub record CannotBuild (d : Digests) (b : BuilderValue) (kind content : List ℕ)
+    (SignsOnce : KeyValue → List ℕ → List ℕ → Type 0) (issuer_key : KeyValue) : Type 0 where
   pub key : KeyValue
   pub attributes : CapturedValue
-  pub attributes_are : WritesAttributes (to_sign kind (d.sha256 content) b.signing_time) attributes.octets
+  pub attributes_are : WritesAttributes (to_sign kind
+      (d.sha256 content) b.signing_time) attributes.octets
   pub signature : List ℕ
   pub signs : SignsAttributes SignsOnce attributes.octets key signature
   pub none : CannotWrap d b kind content issuer_key key attributes signature
 
 -- Nothing can be written of an object: nothing can be signed for it, or nothing can be written with the keys that the signer
 -- told.
-abbrev pub IsTooLong : Digests → BuilderValue → List ℕ → List ℕ → (KeyValue → Type 0) → (KeyValue → List ℕ → List ℕ → Type 0) → Type 0
+abbrev pub IsTooLong : Digests → BuilderValue → List ℕ → List ℕ → (KeyValue → Type 0)
+    → (KeyValue → List ℕ → List ℕ → Type 0) → Type 0
 IsTooLong d b kind content HasKey SignsOnce =
     CannotSign (to_sign kind (d.sha256 content) b.signing_time)
-    ⊎ ((issuer_key : KeyValue) × HasKey issuer_key × CannotBuild d b kind content SignsOnce issuer_key)
+    ⊎ ((issuer_key : KeyValue) × HasKey issuer_key
+    × CannotBuild d b kind content SignsOnce issuer_key)
 
 -- A content's type can be told in DER, by the attribute that is signed (RFC 5652 11.1).
 abbrev pub CanTell : List ℕ → Type 0
@@ -77,7 +88,8 @@ CanTell kind = (text : List ℕ) × (content_type kind).writes Der text
 -- Why nothing is built: the signer refused, by an error of its own; nothing can be written, as `cannot` says; or memory was
 -- lacking, to the signer or for what can be written of it, as `can` says. `refuses` says by which errors the signer refuses,
 -- which is asked for the issuer's key before anything is written.
-abbrev pub BuildRefused : {E : Type 0} → (refuses : SigningError E → Type 0) → (can cannot : Type 0) → SigningError E → Type 0
+abbrev pub BuildRefused : {E : Type 0} → (refuses : SigningError E → Type 0) → (can cannot : Type 0)
+    → SigningError E → Type 0
 BuildRefused refuses can cannot errors.KeyNotFound = refuses errors.KeyNotFound
 BuildRefused refuses can cannot errors.IncompatibleKey = refuses errors.IncompatibleKey
 BuildRefused refuses can cannot (errors.Signer e) = refuses (errors.Signer e)

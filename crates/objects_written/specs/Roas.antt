@@ -25,15 +25,20 @@ pub record WritesPrefix (m : Mode) (x : FirstBits) (content : List ℕ) : Type 0
   pub is : WritesBits m (spelled_bits prefix) content
 
 abbrev bits_for : FirstBits → BitsValue
-bits_for x = record { unused = 8 * octet_count x.len - x.len; octets = take (octet_count x.len) (to_be_bytes w128 x.addr) }
+bits_for x = record {
+  unused = 8 * octet_count x.len - x.len;
+  octets = take (octet_count x.len) (to_be_bytes w128 x.addr);
+}
 
 pub same_bits : (p q : Prefix) → prefix_bits p ≡ prefix_bits q → spelled_bits p ≡ spelled_bits q
 same_bits p q e = ap bits_for e
 
-pub one_prefix : (m : Mode) (x : FirstBits) (a b : List ℕ) → WritesPrefix m x a → WritesPrefix m x b → a ≡ b
+pub one_prefix : (m : Mode) (x : FirstBits) (a b : List ℕ) → WritesPrefix m x a → WritesPrefix m x b
+    → a ≡ b
 one_prefix m x a b v w =
     let same = same_bits v.prefix w.prefix (v.told ∙ sym w.told) in
-    one_bits m (spelled_bits w.prefix) a b (subst (λ (z : BitsValue). WritesBits m z a) same v.is) w.is
+    one_bits m (spelled_bits w.prefix) a b (subst
+    (λ (z : BitsValue). WritesBits m z a) same v.is) w.is
 
 -- IPAddress ::= BIT STRING (RFC 3779 2.2.3.8)
 abbrev pub prefix : FirstBits → Output
@@ -66,7 +71,8 @@ abbrev pub family_parts : FamilyAddresses → AddressFamily × List RoaAddress
 family_parts x = (x.family, x.addresses)
 
 abbrev pub written_family : AddressFamily × List RoaAddress → Output
-written_family p = inside sequence_tag (beside (family_id p.0) (inside sequence_tag (each address p.1)))
+written_family p =
+    inside sequence_tag (beside (family_id p.0) (inside sequence_tag (each address p.1)))
 
 abbrev pub family : FamilyAddresses → Output
 family x = written_family (family_parts x)
@@ -88,7 +94,8 @@ abbrev pub as_id : ℕ → Output
 as_id = of (unsigned (2 ^ 32))
 
 abbrev pub written_roa : RoaParts → Output
-written_roa p = inside sequence_tag (beside (as_id p.0) (inside sequence_tag (beside (perhaps family p.1.0) (perhaps family p.1.1))))
+written_roa p = inside sequence_tag (beside (as_id p.0)
+    (inside sequence_tag (beside (perhaps family p.1.0) (perhaps family p.1.1))))
 
 abbrev pub roa : Roa → Output
 roa r = written_roa (roa_parts r)

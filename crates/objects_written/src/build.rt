@@ -14,31 +14,37 @@ ghost use Rattle.objects_written.specs.certs.Tbs.{WritesTbs};
 ghost use Rattle.objects_written.specs.Attributes.{IsMessage, IsRefused, WritesAttributes, to_sign};
 ghost use Rattle.objects_written.specs.bcder_values.Writable.{Writable};
 ghost use Rattle.objects_written.specs.Builders.{AreFieldsOf, IsBuilt, IsSigned, SignsAttributes, WritesObject, with_places, with_resources};
-ghost use Rattle.objects_written.specs.Refusing.{BuildRefused, CanTell, CannotBuild, CannotCertify, CannotEnclose, CannotSign, CannotWrap, IsTooLong, told_as};
+ghost use Rattle.objects_written.specs.Refusing.{BuildRefused, CanTell, CannotBuild, CannotCertify, CannotEnclose, CannotSign, CannotWrap, IsTooLong};
 
 pub mod laws;
 
-use crate::builder::{Holdings, Names, Places, SignedObjectBuilder};
+use crate::builder::{Holdings, Identity, Places, SignedObjectBuilder};
+use crate::causes::unwritten;
 use crate::frame::{ObjectValue, SignerValue, signed_attributes, signed_message};
 use certs::again::fields_are_lawful;
 use certs::built::BuildCert;
 use certs::written::{Captured, EncodeError, Mode, Values};
 use certs_cert::{Cert, TbsCert};
-use certs_extension::{KeyUsage, Overclaim, Time, Validity};
+use certs_extension::{KeyUsage, Overclaim, Time};
 use certs_key::{
-    Digester, KeyIdentifier, Name, PublicKey, RpkiSignature, RpkiSignatureAlgorithm, Serial,
-    Signer, SigningError,
+    Digester, KeyIdentifier, Name, PublicKey, RpkiSignature, RpkiSignatureAlgorithm, Signer,
+    SigningError,
 };
 use std::alloc::{AllocError, Global};
 
-// Why nothing was signed, where something can't be written.
-fn refused<E>(error: EncodeError) -> SigningError<E>
-    ensures { result ≡ told_as error }
-{
-    match error {
-        EncodeError::Memory => SigningError::Memory,
-        _ => SigningError::TooLong,
-    }
+// A content, with the content octets of its type's identifier.
+#[derive(Drop)]
+struct Content<'a> {
+    content_type: &'a [u8],
+    octets: &'a [u8],
+}
+
+// Who issues the certificate: a signer, the name of its key that signs, and this key's public part.
+#[derive(Drop)]
+struct Issuer<'a, S: Signer> {
+    signer: &'a S,
+    key: &'a S::KeyId,
+    public: &'a PublicKey,
 }
 
 // Attributes, the signature over them, and the key that was made for it.
@@ -52,20 +58,21 @@ struct Signed {
 // The attributes of a content that is signed then.
 fn attributes_of<D: Digester>(
     alloc: Global,
-    content_type: &[u8],
-    content: &[u8],
+    content: &Content<'_>,
     time: Time,
     digester: &D,
 ) -> Result<Captured, EncodeError>
     ensures written { IfOk result (λ c. WritesAttributes
-        (to_sign content_type.now (D.sha256_digest digester.now content.now) time) c.octets) }
+        (to_sign content.now.content_type.now
+        (D.sha256_digest digester.now content.now.octets.now) time) c.octets) }
     ensures mode { IfOk result (λ c. c.mode ≡ Der) }
     ensures refused { IfErr result (IsRefused
-        (to_sign content_type.now (D.sha256_digest digester.now content.now) time)) }
-    ensures memory { IfErr result (λ e. e ≡ memory_lacks → CanTell content_type.now) }
+        (to_sign content.now.content_type.now
+        (D.sha256_digest digester.now content.now.octets.now) time)) }
+    ensures memory { IfErr result (λ e. e ≡ memory_lacks → CanTell content.now.content_type.now) }
 {
-    let digest = digester.sha256(content);
-    signed_attributes(alloc, content_type, &digest, time)
+    let digest = digester.sha256(content.octets);
+    signed_attributes(alloc, content.content_type, &digest, time)
 }
 
 // What is signed of attributes, signed by a key that is made for it alone.
@@ -86,30 +93,31 @@ fn sign<S: Signer>(
             let algorithm = RpkiSignatureAlgorithm::default();
             signer.sign_one_off(alloc, algorithm, message.as_slice())
         }
-        Err(error) => Err(refused(error)),
+        Err(error) => Err(unwritten(error)),
     }
 }
 
-// The attributes for a content of that type that is signed then, signed by a key that is made for them alone.
+// The attributes for a content that is signed then, signed by a key that is made for them alone.
 fn sign_content<S: Signer, D: Digester>(
     alloc: Global,
-    content_type: &[u8],
-    content: &[u8],
+    content: &Content<'_>,
     time: Time,
     signer: &S,
     digester: &D,
 ) -> Result<Signed, SigningError<S::Error>>
     ensures attributes { IfOk result (λ s. WritesAttributes
-        (to_sign content_type.now (D.sha256_digest digester.now content.now) time)
-        s.attributes.octets) }
+        (to_sign content.now.content_type.now
+        (D.sha256_digest digester.now content.now.octets.now) time) s.attributes.octets) }
     ensures mode { IfOk result (λ s. s.attributes.mode ≡ Der) }
     ensures signed { IfOk result (λ s. SignsAttributes (S.signs_once signer.now)
         s.attributes.octets s.key s.signature.bits.octets) }
     ensures padded { IfOk result (λ s. IsPadded Der s.key.bits) }
-    ensures refused { IfErr result (BuildRefused (S.refuses signer.now) (CanTell content_type.now)
-        (CannotSign (to_sign content_type.now (D.sha256_digest digester.now content.now) time))) }
+    ensures refused { IfErr result (BuildRefused (S.refuses signer.now)
+        (CanTell content.now.content_type.now)
+        (CannotSign (to_sign content.now.content_type.now
+        (D.sha256_digest digester.now content.now.octets.now) time))) }
 {
-    match attributes_of(alloc, content_type, content, time, digester) {
+    match attributes_of(alloc, content, time, digester) {
         Ok(attributes) => match sign(alloc, &attributes, signer) {
             Ok((signature, key)) => Ok(Signed {
                 attributes,
@@ -121,7 +129,7 @@ fn sign_content<S: Signer, D: Digester>(
                 Err(error)
             }
         },
-        Err(error) => Err(refused(error)),
+        Err(error) => Err(unwritten(error)),
     }
 }
 
@@ -144,27 +152,39 @@ fn name_for<D: Digester>(
 // A certificate's fields with these numbers, keys and names, the names those of the keys where none are given.
 fn named<D: Digester>(
     alloc: Global,
-    serial: Serial,
-    validity: Validity,
-    names: Names,
+    identity: Identity,
     issuer_key: &PublicKey,
     key: PublicKey,
     digester: &D,
 ) -> Result<TbsCert, AllocError>
-    ensures fields { IfOk result (λ t. t ≡ fresh serial t.issuer validity t.subject key
+    ensures fields { IfOk result (λ t. t ≡ fresh identity.serial_number t.issuer identity.validity
+        t.subject key
         (identifier (digests_of D.sha256_digest D.sha1_digest digester.now) key) Ee Refuse) }
     ensures issuer { IfOk result (λ t. IsSubjectFor
         (digests_of D.sha256_digest D.sha1_digest digester.now)
-        issuer_key.now names.issuer t.issuer) }
+        issuer_key.now identity.issuer t.issuer) }
     ensures subject { IfOk result (λ t. IsSubjectFor
-        (digests_of D.sha256_digest D.sha1_digest digester.now) key names.subject t.subject) }
+        (digests_of D.sha256_digest D.sha1_digest digester.now) key identity.subject t.subject) }
 {
-    let Names { issuer, subject } = names;
+    let Identity {
+        serial_number,
+        validity,
+        issuer,
+        subject,
+    } = identity;
     match name_for(alloc, issuer, issuer_key, digester) {
         Ok(issuer) => {
             let (usage, claim) = (KeyUsage::Ee, Overclaim::Refuse);
             TbsCert::new(
-                alloc, serial, issuer, validity, subject, key, usage, claim, digester,
+                alloc,
+                serial_number,
+                issuer,
+                validity,
+                subject,
+                key,
+                usage,
+                claim,
+                digester,
             )
         }
         Err(error) => {
@@ -218,22 +238,12 @@ fn fields_for<D: Digester>(
 {
     let authority = issuer_key.key_identifier(digester);
     let SignedObjectBuilder {
-        serial_number,
-        validity,
-        names,
+        identity,
         places,
         holdings,
         ..
     } = builder;
-    match named(
-        alloc,
-        serial_number,
-        validity,
-        names,
-        issuer_key,
-        key,
-        digester,
-    ) {
+    match named(alloc, identity, issuer_key, key, digester) {
         Ok(cert) => Ok(held(placed(cert, authority, places), holdings)),
         Err(error) => {
             drop(places);
@@ -247,28 +257,26 @@ fn fields_for<D: Digester>(
 fn certify<S: Signer, D: Digester>(
     alloc: Global,
     builder: SignedObjectBuilder,
-    issuer_public: &PublicKey,
     key: PublicKey,
-    signer: &S,
-    issuer_key: &S::KeyId,
+    issuer: &Issuer<'_, S>,
     digester: &D,
 ) -> Result<Cert, SigningError<S::Error>>
     ensures fields { IfOk result (λ c. AreFieldsOf
         (digests_of D.sha256_digest D.sha1_digest digester.now)
-        builder issuer_public.now key c.tbs) }
+        builder issuer.now.public.now key c.tbs) }
     ensures lawful { IfOk result (λ c. IsLawful c.tbs) }
     ensures message { IfOk result (λ c. WritesTbs c.tbs c.signed.message) }
     ensures algorithm { IfOk result (λ c. c.signed.has_null ≡ c.tbs.has_null) }
-    ensures signed { IfOk result (λ c. S.signs signer.now issuer_key.now
+    ensures signed { IfOk result (λ c. S.signs issuer.now.signer.now issuer.now.key.now
         c.signed.message c.signed.signature) }
-    ensures refused { IfErr result (BuildRefused (S.refuses signer.now) (Unit {0})
+    ensures refused { IfErr result (BuildRefused (S.refuses issuer.now.signer.now) (Unit {0})
         (CannotCertify (digests_of D.sha256_digest D.sha1_digest digester.now)
-        builder issuer_public.now key)) }
+        builder issuer.now.public.now key)) }
 {
-    match fields_for(alloc, builder, issuer_public, key, digester) {
+    match fields_for(alloc, builder, issuer.public, key, digester) {
         Ok(fields) => {
             fields_are_lawful(&fields);
-            fields.into_cert(alloc, signer, issuer_key)
+            fields.into_cert(alloc, issuer.signer, issuer.key)
         }
         Err(_) => Err(SigningError::Memory),
     }
@@ -277,94 +285,86 @@ fn certify<S: Signer, D: Digester>(
 // The octets of the object of these parts, in DER.
 fn object_octets(
     alloc: Global,
-    content_type: &[u8],
-    content: &[u8],
+    content: &Content<'_>,
     cert: &Cert,
     attributes: &Captured,
     signature: &[u8],
 ) -> Result<Captured, EncodeError>
-    ensures written { IfOk result (λ c. WritesObject content_type.now content.now cert.now
-        attributes.now signature.now c.octets) }
+    ensures written { IfOk result (λ c. WritesObject content.now.content_type.now
+        content.now.octets.now cert.now attributes.now signature.now c.octets) }
     ensures mode { IfOk result (λ c. c.mode ≡ Der) }
-    ensures refused { IfErr result (λ e. e ≢ memory_lacks → CannotEnclose content_type.now
-        content.now cert.now attributes.now signature.now) }
+    ensures refused { IfErr result (λ e. e ≢ memory_lacks → CannotEnclose
+        content.now.content_type.now content.now.octets.now
+        cert.now attributes.now signature.now) }
 {
     let carried = cert.to_captured(alloc)?;
     let sid = cert.tbs().subject_key_identifier();
     let signer = SignerValue::new(sid.as_slice(), attributes, signature);
-    let value = ObjectValue::new(content_type, content, &carried, &signer);
+    let value = ObjectValue::new(content.content_type, content.octets, &carried, &signer);
     value.to_captured(alloc, Mode::Der)
 }
 
-// The object of a content of that type, of a certificate and of what its key signed.
+// The object of a content, of a certificate and of what its key signed.
 fn write_object<E>(
     alloc: Global,
-    content_type: &[u8],
-    content: &[u8],
+    content: &Content<'_>,
     cert: &Cert,
     attributes: &Captured,
     signature: &[u8],
 ) -> Result<Captured, SigningError<E>>
-    ensures written { IfOk result (λ c. WritesObject content_type.now content.now cert.now
-        attributes.now signature.now c.octets) }
+    ensures written { IfOk result (λ c. WritesObject content.now.content_type.now
+        content.now.octets.now cert.now attributes.now signature.now c.octets) }
     ensures mode { IfOk result (λ c. c.mode ≡ Der) }
     ensures refused { IfErr result (BuildRefused (λ _. ⊥) (Unit {0}) (CannotEnclose
-        content_type.now content.now cert.now attributes.now signature.now)) }
+        content.now.content_type.now content.now.octets.now
+        cert.now attributes.now signature.now)) }
 {
-    match object_octets(alloc, content_type, content, cert, attributes, signature) {
+    match object_octets(alloc, content, cert, attributes, signature) {
         Ok(octets) => Ok(octets),
-        Err(error) => Err(refused(error)),
+        Err(error) => Err(unwritten(error)),
     }
 }
 
-// The object of a content of that type, of what was signed of it, and of a certificate for the key that signed.
+// The object of a content, of what was signed of it, and of a certificate for the key that signed.
 fn with_cert<S: Signer, D: Digester>(
     alloc: Global,
     builder: SignedObjectBuilder,
-    content_type: &[u8],
-    content: &[u8],
+    content: &Content<'_>,
     signed: Signed,
-    issuer_public: &PublicKey,
-    signer: &S,
-    issuer_key: &S::KeyId,
+    issuer: &Issuer<'_, S>,
     digester: &D,
 ) -> Result<Captured, SigningError<S::Error>>
-    requires attributes { WritesAttributes (to_sign content_type.now
-        (D.sha256_digest digester.now content.now) builder.signing_time) signed.attributes.octets }
+    requires attributes { WritesAttributes (to_sign content.now.content_type.now
+        (D.sha256_digest digester.now content.now.octets.now) builder.signing_time)
+        signed.attributes.octets }
     requires padded { IsPadded Der signed.key.bits }
     ensures built { IfOk result (λ c. IsBuilt
-        (digests_of D.sha256_digest D.sha1_digest digester.now) builder content_type.now
-        content.now c.octets) }
-    ensures signed { S.has_key signer.now issuer_key.now issuer_public.now
-        → SignsAttributes (S.signs_once signer.now)
+        (digests_of D.sha256_digest D.sha1_digest digester.now) builder
+        content.now.content_type.now content.now.octets.now c.octets) }
+    ensures signed { S.has_key issuer.now.signer.now issuer.now.key.now issuer.now.public.now
+        → SignsAttributes (S.signs_once issuer.now.signer.now)
         signed.attributes.octets signed.key signed.signature.bits.octets
         → IfOk result (λ c. (x : IsBuilt
-        (digests_of D.sha256_digest D.sha1_digest digester.now) builder content_type.now
-        content.now c.octets) × IsSigned (S.has_key signer.now issuer_key.now)
-        (S.signs signer.now issuer_key.now) (S.signs_once signer.now) x) }
+        (digests_of D.sha256_digest D.sha1_digest digester.now) builder
+        content.now.content_type.now content.now.octets.now c.octets)
+        × IsSigned (S.has_key issuer.now.signer.now issuer.now.key.now)
+        (S.signs issuer.now.signer.now issuer.now.key.now)
+        (S.signs_once issuer.now.signer.now) x) }
     ensures mode { IfOk result (λ c. c.mode ≡ Der) }
-    ensures refused { IfErr result (BuildRefused (S.refuses signer.now) (Unit {0}) (CannotWrap
-        (digests_of D.sha256_digest D.sha1_digest digester.now) builder content_type.now
-        content.now issuer_public.now signed.key signed.attributes signed.signature.bits.octets)) }
+    ensures refused { IfErr result (BuildRefused (S.refuses issuer.now.signer.now) (Unit {0})
+        (CannotWrap (digests_of D.sha256_digest D.sha1_digest digester.now) builder
+        content.now.content_type.now content.now.octets.now issuer.now.public.now
+        signed.key signed.attributes signed.signature.bits.octets)) }
 {
     let Signed {
         attributes,
         signature,
         key,
     } = signed;
-    let made = certify(
-        alloc,
-        builder,
-        issuer_public,
-        key,
-        signer,
-        issuer_key,
-        digester,
-    );
-    match made {
+    match certify(alloc, builder, key, issuer, digester) {
         Ok(cert) => {
             let value = signature.value();
-            let octets = write_object(alloc, content_type, content, &cert, &attributes, value);
+            let octets = write_object(alloc, content, &cert, &attributes, value);
             drop(cert);
             drop(attributes);
             drop(signature);
@@ -378,45 +378,36 @@ fn with_cert<S: Signer, D: Digester>(
     }
 }
 
-// The object of a content of that type, for an issuer with that public key.
+// The object of a content, for that issuer.
 fn build<S: Signer, D: Digester>(
     alloc: Global,
     builder: SignedObjectBuilder,
-    content_type: &[u8],
-    content: &[u8],
-    issuer_public: &PublicKey,
-    signer: &S,
-    issuer_key: &S::KeyId,
+    content: &Content<'_>,
+    issuer: &Issuer<'_, S>,
     digester: &D,
 ) -> Result<Captured, SigningError<S::Error>>
     ensures built { IfOk result (λ c. IsBuilt
-        (digests_of D.sha256_digest D.sha1_digest digester.now) builder content_type.now
-        content.now c.octets) }
-    ensures signed { S.has_key signer.now issuer_key.now issuer_public.now
+        (digests_of D.sha256_digest D.sha1_digest digester.now) builder
+        content.now.content_type.now content.now.octets.now c.octets) }
+    ensures signed { S.has_key issuer.now.signer.now issuer.now.key.now issuer.now.public.now
         → IfOk result (λ c. (x : IsBuilt
-        (digests_of D.sha256_digest D.sha1_digest digester.now) builder content_type.now
-        content.now c.octets) × IsSigned (S.has_key signer.now issuer_key.now)
-        (S.signs signer.now issuer_key.now) (S.signs_once signer.now) x) }
+        (digests_of D.sha256_digest D.sha1_digest digester.now) builder
+        content.now.content_type.now content.now.octets.now c.octets)
+        × IsSigned (S.has_key issuer.now.signer.now issuer.now.key.now)
+        (S.signs issuer.now.signer.now issuer.now.key.now)
+        (S.signs_once issuer.now.signer.now) x) }
     ensures mode { IfOk result (λ c. c.mode ≡ Der) }
-    ensures refused { IfErr result (BuildRefused (S.refuses signer.now) (CanTell content_type.now)
-        (CannotSign (to_sign content_type.now
-        (D.sha256_digest digester.now content.now) builder.signing_time) ⊎ CannotBuild
-        (digests_of D.sha256_digest D.sha1_digest digester.now) builder content_type.now
-        content.now (S.signs_once signer.now) issuer_public.now)) }
+    ensures refused { IfErr result (BuildRefused (S.refuses issuer.now.signer.now)
+        (CanTell content.now.content_type.now)
+        (CannotSign (to_sign content.now.content_type.now
+        (D.sha256_digest digester.now content.now.octets.now) builder.signing_time) ⊎ CannotBuild
+        (digests_of D.sha256_digest D.sha1_digest digester.now) builder
+        content.now.content_type.now content.now.octets.now
+        (S.signs_once issuer.now.signer.now) issuer.now.public.now)) }
 {
     let time = builder.signing_time();
-    match sign_content(alloc, content_type, content, time, signer, digester) {
-        Ok(signed) => with_cert(
-            alloc,
-            builder,
-            content_type,
-            content,
-            signed,
-            issuer_public,
-            signer,
-            issuer_key,
-            digester,
-        ),
+    match sign_content(alloc, content, time, issuer.signer, digester) {
+        Ok(signed) => with_cert(alloc, builder, content, signed, issuer, digester),
         Err(error) => {
             drop(builder);
             Err(error)
@@ -455,16 +446,16 @@ impl SignedObjectBuilder {
     {
         match signer.get_key_info(alloc, issuer_key) {
             Ok(public) => {
-                let octets = build(
-                    alloc,
-                    self,
+                let enclosed = Content {
                     content_type,
-                    content,
-                    &public,
+                    octets: content,
+                };
+                let issuer = Issuer {
                     signer,
-                    issuer_key,
-                    digester,
-                );
+                    key: issuer_key,
+                    public: &public,
+                };
+                let octets = build(alloc, self, &enclosed, &issuer, digester);
                 drop(public);
                 octets
             }

@@ -7,9 +7,11 @@ use certs_extension::{AsResources, IpResources, Rsync, Time, Validity};
 use certs_key::{DigestAlgorithm, Name, Serial};
 use std::marker::Model;
 
-// The names of the certificate, where they aren't made from the keys.
+// The number of the certificate, when it is valid, and its names where they aren't made from the keys.
 #[derive(Drop)]
-pub(crate) struct Names {
+pub(crate) struct Identity {
+    pub(crate) serial_number: Serial,
+    pub(crate) validity: Validity,
     pub(crate) issuer: Option<Name>,
     pub(crate) subject: Option<Name>,
 }
@@ -35,9 +37,7 @@ pub(crate) struct Holdings {
 #[derive(Drop)]
 pub struct SignedObjectBuilder {
     digest_algorithm: DigestAlgorithm,
-    pub(crate) serial_number: Serial,
-    pub(crate) validity: Validity,
-    pub(crate) names: Names,
+    pub(crate) identity: Identity,
     pub(crate) places: Places,
     pub(crate) holdings: Holdings,
     signing_time: Time,
@@ -49,11 +49,11 @@ impl Model for SignedObjectBuilder {
     ghost Value = { BuilderValue };
 
     ghost view = { λ b. record {
-      serial = b.serial_number;
-      not_before = b.validity.not_before;
-      not_after = b.validity.not_after;
-      issuer = b.names.issuer;
-      subject = b.names.subject;
+      serial = b.identity.serial_number;
+      not_before = b.identity.validity.not_before;
+      not_after = b.identity.validity.not_after;
+      issuer = b.identity.issuer;
+      subject = b.identity.subject;
       crl_uri = b.places.crl_uri;
       ca_issuer = b.places.ca_issuer;
       signed_object = b.places.signed_object;
@@ -91,9 +91,9 @@ impl SignedObjectBuilder {
     {
         SignedObjectBuilder {
             digest_algorithm: DigestAlgorithm::default(),
-            serial_number,
-            validity,
-            names: Names {
+            identity: Identity {
+                serial_number,
+                validity,
                 issuer: None,
                 subject: None,
             },
@@ -127,14 +127,14 @@ impl SignedObjectBuilder {
     pub fn serial_number(&self) -> Serial
         ensures { result ≡ self.now.serial }
     {
-        self.serial_number
+        self.identity.serial_number
     }
 
     /// Sets the serial number of the certificate.
     pub fn set_serial_number(&mut self, serial: Serial)
         ensures { self.new ≡ record self.old { serial = serial } }
     {
-        self.serial_number = serial;
+        self.identity.serial_number = serial;
     }
 
     /// From when to when the certificate is valid (RFC 5280 4.1.2.5).
@@ -144,7 +144,7 @@ impl SignedObjectBuilder {
           not_after = self.now.not_after;
         } }
     {
-        self.validity
+        self.identity.validity
     }
 
     /// Sets the validity of the certificate.
@@ -154,35 +154,35 @@ impl SignedObjectBuilder {
           not_after = validity.not_after;
         } }
     {
-        self.validity = validity;
+        self.identity.validity = validity;
     }
 
     /// The name of the issuer, where it isn't made from its key (RFC 6487 4.4).
     pub fn issuer(&self) -> Option<&Name>
         ensures { option_copied result ≡ self.now.issuer }
     {
-        self.names.issuer.as_ref()
+        self.identity.issuer.as_ref()
     }
 
     /// Sets the name of the issuer; without one it is made from its key.
     pub fn set_issuer(&mut self, name: Option<Name>)
         ensures { self.new ≡ record self.old { issuer = name } }
     {
-        self.names.issuer = name;
+        self.identity.issuer = name;
     }
 
     /// The name of the subject, where it isn't made from the key (RFC 6487 4.5).
     pub fn subject(&self) -> Option<&Name>
         ensures { option_copied result ≡ self.now.subject }
     {
-        self.names.subject.as_ref()
+        self.identity.subject.as_ref()
     }
 
     /// Sets the name of the subject; without one it is made from the key.
     pub fn set_subject(&mut self, name: Option<Name>)
         ensures { self.new ≡ record self.old { subject = name } }
     {
-        self.names.subject = name;
+        self.identity.subject = name;
     }
 
     /// Where the revocation list is found (RFC 6487 4.8.6).

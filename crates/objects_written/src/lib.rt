@@ -5,7 +5,8 @@
 //! [`EncodeRoa`], [`EncodeManifest`], [`EncodeAddresses`] and [`EncodeFile`] give contents, addresses and listed files
 //! what the codec writes; the `to_octets` of the first two is the DER that a signed object holds, and is read again as
 //! the same content. [`SignedObjectBuilder`] has what a certificate for an object needs besides the keys; `finalize` signs a
-//! content and the certificate, and gives the object's octets.
+//! content and the certificate, and gives the object's octets. [`der`] takes octets that were kept as the values that they are
+//! in DER.
 //!
 //! What differs from the Rust crate: what is written is had by calls of traits; what is refused is answered with an error,
 //! where the Rust crate panics. `SignedObjectBuilder::new` is given the moment of signing; `finalize` is given an allocator and
@@ -15,6 +16,8 @@
 pub mod address;
 pub mod build;
 pub mod builder;
+pub mod causes;
+pub mod der;
 pub mod family;
 pub mod file;
 pub mod frame;

@@ -23,7 +23,7 @@ use std::marker::Model;
 
 /// A moment: a GeneralizedTime, whatever its year (RFC 9286 4.2.1).
 #[derive(Drop)]
-pub struct MomentValue(Time);
+pub struct MomentValue(pub Time);
 
 impl Values for MomentValue {
     ghost trees = { λ v. (moment v.0).trees };
@@ -46,7 +46,7 @@ impl Values for MomentValue {
 }
 
 /// What is written of these parts of a manifest: the version, which is the default, is left out (X.690 11.5).
-pub(crate) type Parts<F> = (
+pub type Parts<F> = (
     SerialValue,
     MomentValue,
     MomentValue,
@@ -55,7 +55,7 @@ pub(crate) type Parts<F> = (
 );
 
 /// A manifest's number, its moments, the algorithm and the files, in a SEQUENCE.
-pub(crate) fn parts_of<F>(
+pub fn parts_of<F>(
     manifest_number: Serial,
     this_update: Time,
     next_update: Time,

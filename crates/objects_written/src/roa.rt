@@ -19,14 +19,22 @@ use std::alloc::Global;
 use std::io::Write;
 use std::marker::Model;
 
-/// An AS number: an INTEGER (RFC 9582 4.2).
+/// An AS number: an INTEGER (RFC 9582 4.2, draft-ietf-sidrops-aspa-profile 3). Contracts see the number.
 #[derive(Drop)]
-pub struct AsIdValue(Asn);
+pub struct AsIdValue(pub Asn);
+
+impl Model for AsIdValue {
+    ghost use Rattle.std.specs.Prelude.{ℕ};
+
+    ghost Value = { ℕ };
+
+    ghost view = { λ v. v.0.value };
+}
 
 impl Values for AsIdValue {
-    ghost trees = { λ v. (as_id v.0.value).trees };
+    ghost trees = { λ v. (as_id v).trees };
 
-    ghost writes = { λ v. (as_id v.0.value).writes };
+    ghost writes = { λ v. (as_id v).writes };
 
     fn encoded_len(&self, mode: Mode) -> Result<usize, EncodeError> {
         let value = Primitive {
@@ -44,9 +52,9 @@ impl Values for AsIdValue {
         value.write_encoded(mode, target)
     }
 
-    ghost spelled = { λ v. (as_id v.0.value).spelled };
+    ghost spelled = { λ v. (as_id v).spelled };
 
-    ghost one_text = { λ v. (as_id v.0.value).one_text };
+    ghost one_text = { λ v. (as_id v).one_text };
 }
 
 /// What is written of an attestation: a SEQUENCE of its AS number and of the families that have addresses, IPv4 first.
@@ -68,7 +76,7 @@ type Families<'a> = (Option<FamilyValue<'a>>, Option<FamilyValue<'a>>);
 impl<'a> RoaValue<'a> {
     // The AS number and the families, in a SEQUENCE.
     fn parts(&self) -> Sequence<(AsIdValue, Sequence<Families<'a>>)>
-        ensures { (result.0.0.0.value, (result.0.1.0.0, result.0.1.0.1)) ≡ roa_parts self.now }
+        ensures { (result.0.0, (result.0.1.0.0, result.0.1.0.1)) ≡ roa_parts self.now }
     {
         let roa = self.0;
         let v4 = shown(AddressFamily::Ipv4, roa.v4_addrs());

@@ -28,10 +28,6 @@ pub fit_push : (f : AddressFamily) (runs : List Run) (r : Run) → FitsBlocks f 
 fit_push Ipv4 runs r all one = whole_push runs r all one
 fit_push Ipv6 runs r all one = tt
 
-pub fit_nothing : (f : AddressFamily) → FitsBlocks f []
-fit_nothing Ipv4 = λ n m e h. h
-fit_nothing Ipv6 = tt
-
 pub fit_set : (f : AddressFamily) (runs set : List Run) → FitsBlocks f runs → IsRunsOf (InRuns runs) set → FitsBlocks f set
 fit_set Ipv4 runs set all is = whole_set runs set all is
 fit_set Ipv6 runs set all is = tt

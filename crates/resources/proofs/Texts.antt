@@ -1,11 +1,11 @@
 -- Texts of sets of all three kinds.
 use Rattle.std.proofs.Common.{◌≡◌, ℕ, List, [], ◌∷◌, ◌++◌, inl, refl, le_refl}
-use Rattle.std.specs.Prelude.{◌↔◌, Bool, IsTrue, if◌then◌else◌, codes}
+use Rattle.std.specs.Prelude.{◌↔◌, Bool, IsTrue, if◌then◌else◌}
 use Rattle.resources.specs.resources_chain.Sets.{Run, AreMaximal}
 use Rattle.resources.specs.resources_chain.Same.{one_answer}
 use Rattle.resources.specs.Equal.{all_three}
-use Rattle.resources.specs.Resources.{Resources, Changes, HasNone, IsNone}
-use Rattle.resources.specs.Texts.{no_run, no_runs, kind_text, kinds_text, changes_text}
+use Rattle.resources.specs.Resources.{Resources, HasNone, IsNone}
+use Rattle.resources.specs.Texts.{no_run, no_runs, kind_text}
 
 -- What is said of each kind, together.
 each_tells : {r a b c : Bool} {P Q R : Type 0} → (IsTrue r ↔ (IsTrue a × IsTrue b × IsTrue c)) → (IsTrue a ↔ P) → (IsTrue b ↔ Q) → (IsTrue c ↔ R) → IsTrue r ↔ (P × Q × R)
@@ -30,12 +30,3 @@ nones_are answer set a b c h =
 -- What is printed of a kind.
 pub kind_is : (name : List ℕ) (text : List Run → List ℕ) (set : List Run) {answer : Bool} → no_run set ≡ answer → kind_text name text set ≡ (if answer then [] else name ++ text set)
 kind_is name text set e = λ i. if e i then [] else name ++ text set
-
--- What is printed of changes.
-pub changes_are : (d : Changes) {a b : Bool} → no_runs d.added ≡ a → no_runs d.removed ≡ b → changes_text d ≡ (if a then (if b then codes "<no changes in resources>" else codes "Removed:" ++ kinds_text d.removed) else (if b then codes "Added:" ++ kinds_text d.added else codes "Added:" ++ (kinds_text d.added ++ (codes " Removed:" ++ kinds_text d.removed))))
-changes_are d e f = λ i.
-    if e i
-    then (if f i then codes "<no changes in resources>" else codes "Removed:" ++ kinds_text d.removed)
-    else (if f i
-    then codes "Added:" ++ kinds_text d.added
-    else codes "Added:" ++ (kinds_text d.added ++ (codes " Removed:" ++ kinds_text d.removed)))

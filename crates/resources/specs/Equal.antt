@@ -28,14 +28,20 @@ pub sets_eq_tells : (a b : Resources) → IsTrue (sets_eq a b) ↔ (a ≡ b)
 sets_eq_tells a b =
     let three = all_three (runs_eq a.asn b.asn) (runs_eq a.ipv4 b.ipv4) (runs_eq a.ipv6 b.ipv6) in (
       λ t. let parts = three.0 t in set_is ((runs_eq_tells a.asn b.asn).0 parts.0) ((runs_eq_tells a.ipv4 b.ipv4).0 parts.1) ((runs_eq_tells a.ipv6 b.ipv6).0 parts.2),
-      λ e. three.1 ((runs_eq_tells a.asn b.asn).1 (ap (λ (x : Resources). x.asn) e), (runs_eq_tells a.ipv4 b.ipv4).1 (ap (λ (x : Resources). x.ipv4) e), (runs_eq_tells a.ipv6 b.ipv6).1 (ap (λ (x : Resources). x.ipv6) e)),
+      λ e. three.1 (
+        (runs_eq_tells a.asn b.asn).1 (ap (λ (x : Resources). x.asn) e),
+        (runs_eq_tells a.ipv4 b.ipv4).1 (ap (λ (x : Resources). x.ipv4) e),
+        (runs_eq_tells a.ipv6 b.ipv6).1 (ap (λ (x : Resources). x.ipv6) e),
+      ),
     )
 
 pub sets_eq_equiv : IsEquivalence sets_eq
 sets_eq_equiv = record {
   refl = λ x. (sets_eq_tells x x).1 refl;
-  symm = λ x y. one_answer {P = x ≡ y} (sets_eq x y) (sets_eq y x) (sets_eq_tells x y) (λ t. sym ((sets_eq_tells y x).0 t), λ e. (sets_eq_tells y x).1 (sym e));
+  symm = λ x y. one_answer {P = x ≡ y} (sets_eq x y) (sets_eq y x) (sets_eq_tells x y)
+      (λ t. sym ((sets_eq_tells y x).0 t), λ e. (sets_eq_tells y x).1 (sym e));
   congr = λ x y z t.
       let e : x ≡ y = (sets_eq_tells x y).0 t in
-      one_answer {P = x ≡ z} (sets_eq x z) (sets_eq y z) (sets_eq_tells x z) (λ h. e ∙ (sets_eq_tells y z).0 h, λ h. (sets_eq_tells y z).1 (sym e ∙ h));
+      one_answer {P = x ≡ z} (sets_eq x z) (sets_eq y z) (sets_eq_tells x z)
+      (λ h. e ∙ (sets_eq_tells y z).0 h, λ h. (sets_eq_tells y z).1 (sym e ∙ h));
 }

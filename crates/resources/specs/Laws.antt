@@ -5,7 +5,8 @@ use Rattle.resources.specs.Resources.{Resources, Changes}
 
 -- The numbers of one set without those of a second, and those of a third, are just those of a fourth.
 abbrev pub Turns : (before removed added now : List Run) → Type 0
-Turns before removed added now = (n : ℕ) → ((InRuns before n × ¬ (InRuns removed n)) ⊎ InRuns added n) ↔ InRuns now n
+Turns before removed added now =
+    (n : ℕ) → ((InRuns before n × ¬ (InRuns removed n)) ⊎ InRuns added n) ↔ InRuns now n
 
 -- In each kind: without what was removed and with what was added.
 pub record LeadsTo (before : Resources) (d : Changes) (now : Resources) : Type 0 where

@@ -19,7 +19,8 @@ pub record AreRunsOf (asn ipv4 ipv6 : ℕ → Type 0) (set : Resources) : Type 0
 
 -- In each kind the set has the numbers that P says of those of two sets.
 abbrev pub Combines : (P : List Run → List Run → ℕ → Type 0) (one other set : Resources) → Type 0
-Combines P one other set = AreRunsOf (P one.asn other.asn) (P one.ipv4 other.ipv4) (P one.ipv6 other.ipv6) set
+Combines P one other set =
+    AreRunsOf (P one.asn other.asn) (P one.ipv4 other.ipv4) (P one.ipv6 other.ipv6) set
 
 -- There is no number.
 abbrev pub IsNone : List Run → Type 0
@@ -31,7 +32,8 @@ HasNone set = IsNone set.asn × IsNone set.ipv4 × IsNone set.ipv6
 
 -- In each kind all numbers of the first set are in the second.
 abbrev pub AreInside : Resources → Resources → Type 0
-AreInside inner outer = IsInside inner.asn outer.asn × IsInside inner.ipv4 outer.ipv4 × IsInside inner.ipv6 outer.ipv6
+AreInside inner outer =
+    IsInside inner.asn outer.asn × IsInside inner.ipv4 outer.ipv4 × IsInside inner.ipv6 outer.ipv6
 
 -- The sets have the same numbers.
 abbrev pub AreSame : List Run → List Run → Type 0
@@ -39,7 +41,8 @@ AreSame one other = (n : ℕ) → InRuns one n ↔ InRuns other n
 
 -- In each kind the sets have the same numbers.
 abbrev pub HaveSame : Resources → Resources → Type 0
-HaveSame one other = AreSame one.asn other.asn × AreSame one.ipv4 other.ipv4 × AreSame one.ipv6 other.ipv6
+HaveSame one other =
+    AreSame one.asn other.asn × AreSame one.ipv4 other.ipv4 × AreSame one.ipv6 other.ipv6
 
 -- What a set has more than another, and what it lacks.
 pub record Changes : Type 0 where

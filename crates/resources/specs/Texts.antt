@@ -24,8 +24,10 @@ pub record AreListTexts (asn ipv4 ipv6 : List ℕ) : Type 0 where
 abbrev pub RefusesTexts : List ℕ → List ℕ → List ℕ → FromStrError → Type 0
 RefusesTexts asn ipv4 ipv6 (Asn cause) = IsNoAsSet asn cause
 RefusesTexts asn ipv4 ipv6 (Ipv4 cause) = IsAsListText asn × IsNoIpSet V4 ipv4 cause
-RefusesTexts asn ipv4 ipv6 (Ipv6 cause) = IsAsListText asn × IsIpListText V4 ipv4 × IsNoIpSet V6 ipv6 cause
-RefusesTexts asn ipv4 ipv6 Memory = AreListTexts asn ipv4 ipv6 × ¬ ((asn ≡ []) × (ipv4 ≡ []) × (ipv6 ≡ []))
+RefusesTexts asn ipv4 ipv6 (Ipv6 cause) =
+    IsAsListText asn × IsIpListText V4 ipv4 × IsNoIpSet V6 ipv6 cause
+RefusesTexts asn ipv4 ipv6 Memory =
+    AreListTexts asn ipv4 ipv6 × ¬ ((asn ≡ []) × (ipv4 ≡ []) × (ipv6 ≡ []))
 
 -- The answer is the set of the three texts; or one of them is of no set, or no memory is left.
 abbrev pub ReadsTexts : List ℕ → List ℕ → List ℕ → Result Resources FromStrError → Type 0
@@ -34,7 +36,9 @@ ReadsTexts asn ipv4 ipv6 r = MatchResult r (AreTextsOf asn ipv4 ipv6) (RefusesTe
 -- A set as it is printed: `asn: '..', ipv4: '..', ipv6: '..'`.
 abbrev pub resources_text : Resources → List ℕ
 resources_text set =
-    codes "asn: '" ++ (as_set_text set.asn ++ (codes "', ipv4: '" ++ (ip_set_text V4 set.ipv4 ++ (codes "', ipv6: '" ++ (ip_set_text V6 set.ipv6 ++ codes "'")))))
+    codes "asn: '" ++ (as_set_text set.asn ++ (codes "', ipv4: '" ++
+    (ip_set_text V4 set.ipv4 ++ (codes "', ipv6: '" ++
+    (ip_set_text V6 set.ipv6 ++ codes "'")))))
 
 -- There is no run.
 abbrev pub no_run : List Run → Bool
@@ -51,7 +55,9 @@ kind_text name text set = if no_run set then [] else name ++ text set
 -- All kinds of which there are some.
 abbrev pub kinds_text : Resources → List ℕ
 kinds_text set =
-    kind_text (codes " asn: ") as_set_text set.asn ++ (kind_text (codes " ipv4: ") (ip_set_text V4) set.ipv4 ++ kind_text (codes " ipv6: ") (ip_set_text V6) set.ipv6)
+    kind_text (codes " asn: ") as_set_text set.asn ++
+    (kind_text (codes " ipv4: ") (ip_set_text V4) set.ipv4 ++ kind_text (codes " ipv6: ")
+    (ip_set_text V6) set.ipv6)
 
 -- Changes as they are printed: `Added: asn: .. ipv4: .. Removed: ipv6: ..`.
 abbrev pub changes_text : Changes → List ℕ

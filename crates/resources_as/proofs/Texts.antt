@@ -1,5 +1,5 @@
 -- Texts of sets of AS numbers.
-use Rattle.std.proofs.Common.{◌≡◌, ℕ, ◌⊎◌, List, [], ◌∷◌, length, map, inl, inr, sym, subst, refl, ap, arith}
+use Rattle.std.proofs.Common.{◌≡◌, ℕ, ◌⊎◌, List, [], ◌∷◌, length, map, inl, inr, sym, subst, refl, arith}
 use Rattle.std.specs.Prelude.{Some, Result, MatchResult}
 use Rattle.std.proofs.Common.{Ok, Err}
 use Rattle.resources_as.specs.resources_chain.Sets.{Run, AreMaximal, IsRunsOf}
@@ -14,7 +14,7 @@ use Rattle.resources_asn.proofs.BlockTexts.{no_block, block_once, block_some, ru
 use Rattle.resources_as.specs.resources_chain.Claims.{Choice}
 use Rattle.resources_as.specs.resources_chain.Choices.{choice_text}
 use Rattle.resources_as.specs.resources_chain.declared.choice.ResourcesChoice.TheVariants.{Missing, Inherit, Blocks}
-use Rattle.resources_as.specs.Texts.{IsAsSetText, IsAsListText, IsNoAsSet, IsNoPiece, RefusesAsSet, as_set_text, IsAsChoiceText, as_choice_text}
+use Rattle.resources_as.specs.Texts.{IsAsSetText, IsAsListText, IsNoAsSet, IsNoPiece, RefusesAsSet, as_set_text, as_choice_text}
 
 -- What is wrong with a piece is wrong with that of no block.
 no_piece : (e : FromStrError) (piece : List ℕ) (r : Run) → IsNoPiece e piece → ¬ (IsAsBlockText piece r)
@@ -66,14 +66,6 @@ set_read blocks runs e m =
 
 pub one_set : (text : List ℕ) (a b : List Run) → IsAsSetText text a → IsAsSetText text b → a ≡ b
 one_set = set_once IsAsBlockText block_once block_some
-
--- Some text is printed of a set of some numbers.
-some_printed : (set : List Run) → IsAsSetText (as_set_text set) set → ¬ (set ≡ []) → ¬ (as_set_text set ≡ [])
-some_printed set read some e =
-    some (one_set (as_set_text set) set [] read (reads_none (as_set_text set) [] e (record { maximal = tt; same = λ n. (λ x. x, λ x. x) })))
-
-pub listed_read : (set : List Run) → IsAsSetText (as_set_text set) set → ¬ (Blocks set ≡ Blocks []) → IsAsChoiceText (as_choice_text (Blocks set)) (Blocks set)
-listed_read set read some = (some_printed set read (λ e. some (ap (λ (x : List Run). Blocks x) e)), read)
 
 -- What is printed of a choice is what is printed of its set, if it lists one.
 pub choice_printed : (choice : Choice) → choice_text (λ set. Some (as_set_text set)) choice ≡ Some (as_choice_text choice)

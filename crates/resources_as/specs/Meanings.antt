@@ -15,7 +15,8 @@ blocks_one : OneAll AreBlocks
 blocks_one = record {
   one = λ ts x y p q.
       let same : p.runs ≡ q.runs = (many_one block_one).one ts p.runs q.runs p.are q.are in
-      one_list_of p.union (subst (λ (runs : List Run). IsRunsOf (InRuns runs) y) (sym same) q.union);
+      one_list_of p.union (subst (λ (runs : List Run). IsRunsOf (InRuns runs) y)
+      (sym same) q.union);
 }
 
 -- A value lists one set.
@@ -36,7 +37,8 @@ list_tagged = as_tagged (inside_tagged _ _)
 
 -- A value says one thing.
 choice_one : One IsAsChoice
-choice_one = one_of_one inherit_tagged list_tagged (universal_apart (λ e. omega arith)) (as_one (octets_one null_one)) (as_one set_one)
+choice_one = one_of_one inherit_tagged list_tagged (universal_apart (λ e. omega arith))
+    (as_one (octets_one null_one)) (as_one set_one)
 
 -- A value is AS resources in one way.
 pub resources_one : One IsAsResources

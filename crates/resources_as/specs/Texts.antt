@@ -49,7 +49,8 @@ IsAsChoiceText text (Blocks set) = ¬ (text ≡ []) × IsAsSetText text set
 
 -- The answer is the choice of the text; or it has none, or no memory is left.
 abbrev pub ReadsAsChoice : List ℕ → Result Choice FromStrError → Type 0
-ReadsAsChoice text r = MatchResult r (IsAsChoiceText text) (λ e. ¬ (text ≡ codes "inherit") × RefusesAsSet text e)
+ReadsAsChoice text r =
+    MatchResult r (IsAsChoiceText text) (λ e. ¬ (text ≡ codes "inherit") × RefusesAsSet text e)
 
 -- A choice as it is printed.
 abbrev pub as_choice_text : Choice → List ℕ

@@ -39,8 +39,10 @@ AreAsResources (Blocks runs) = AreIdentifiers (IsWrapped sequence_tag (AreAsBloc
 
 abbrev pub WritesAsResources : Mode → Choice → List ℕ → Type 0
 WritesAsResources m Missing = NoText
-WritesAsResources m Inherit = WritesIdentifiers m (WritesPlain m null_tag (λ content. IsNull content tt))
-WritesAsResources m (Blocks runs) = WritesIdentifiers m (WritesWrapped m sequence_tag (WritesAsBlocks m runs))
+WritesAsResources m Inherit =
+    WritesIdentifiers m (WritesPlain m null_tag (λ content. IsNull content tt))
+WritesAsResources m (Blocks runs) =
+    WritesIdentifiers m (WritesWrapped m sequence_tag (WritesAsBlocks m runs))
 
 -- One value, which is AS resources of the choice, and of no other.
 pub record MeansJust (choice : Choice) (ts : Trees) : Type 0 where
@@ -56,18 +58,23 @@ pub record ReadsSet (runs : List Run) (ts : Trees) : Type 0 where
   pub is : IsAsSet tree runs
 
 -- What is written spells these values, and is always the same.
-pub blocks_spelled : (m : Mode) (runs : List Run) (text : List ℕ) → WritesAsBlocks m runs text → SpellsSome m (AreAsBlocks runs) text
+pub blocks_spelled : (m : Mode) (runs : List Run) (text : List ℕ) → WritesAsBlocks m runs text
+    → SpellsSome m (AreAsBlocks runs) text
 blocks_spelled m = all_spelled m (block_spelled m)
 
-pub blocks_one : (m : Mode) (runs : List Run) (a b : List ℕ) → WritesAsBlocks m runs a → WritesAsBlocks m runs b → a ≡ b
+pub blocks_one : (m : Mode) (runs : List Run) (a b : List ℕ) → WritesAsBlocks m runs a
+    → WritesAsBlocks m runs b → a ≡ b
 blocks_one m = all_one (block_one m)
 
-pub resources_spelled : (m : Mode) (choice : Choice) (text : List ℕ) → WritesAsResources m choice text → SpellsSome m (AreAsResources choice) text
+pub resources_spelled : (m : Mode) (choice : Choice) (text : List ℕ)
+    → WritesAsResources m choice text → SpellsSome m (AreAsResources choice) text
 resources_spelled m Missing = nothing_spelled m
 resources_spelled m Inherit = wrapped_spelled m (wrapped_spelled m (plain_spelled m))
-resources_spelled m (Blocks runs) = wrapped_spelled m (wrapped_spelled m (wrapped_spelled m (blocks_spelled m runs)))
+resources_spelled m (Blocks runs) =
+    wrapped_spelled m (wrapped_spelled m (wrapped_spelled m (blocks_spelled m runs)))
 
-pub resources_one : (m : Mode) (choice : Choice) (a b : List ℕ) → WritesAsResources m choice a → WritesAsResources m choice b → a ≡ b
+pub resources_one : (m : Mode) (choice : Choice) (a b : List ℕ) → WritesAsResources m choice a
+    → WritesAsResources m choice b → a ≡ b
 resources_one m Missing = nothing_one
 resources_one m Inherit = wrapped_one m (wrapped_one m (plain_one m (one_null tt)))
 resources_one m (Blocks runs) = wrapped_one m (wrapped_one m (wrapped_one m (blocks_one m runs)))

@@ -31,11 +31,13 @@ IsNoAsBlock text BadAsn =
     ⊎ ((min max : List ℕ) × IsCut 45 text min max × LacksByte 45 max × (IsNoAsn min ⊎ IsNoAsn max))
 IsNoAsBlock text BadRange =
     (min max : List ℕ) × IsCut 45 text min max
-    × (¬ (LacksByte 45 max) ⊎ ((first last : ℕ) × IsAsnText min first × IsAsnText max last × (last < first)))
+    × (¬ (LacksByte 45 max) ⊎ ((first last : ℕ) × IsAsnText min first × IsAsnText max last
+    × (last < first)))
 IsNoAsBlock text BadBlocks = ⊥
 IsNoAsBlock text Memory = ⊥
 
 -- The answer is the block that the text writes; or it writes none, for that reason.
 abbrev pub ReadsAsBlock : List ℕ → Result AsBlock FromStrError → Type 0
 ReadsAsBlock text r =
-    MatchResult r (λ b. IsAsBlockText text (as_run b)) (λ e. IsNoAsBlock text e × ((run : Run) → ¬ (IsAsBlockText text run)))
+    MatchResult r (λ b. IsAsBlockText text (as_run b))
+    (λ e. IsNoAsBlock text e × ((run : Run) → ¬ (IsAsBlockText text run)))

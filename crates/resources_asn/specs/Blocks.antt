@@ -14,7 +14,8 @@ as_run (Id n) = record { first = n.value; last = n.value }
 as_run (Range r) = range_run r
 
 -- A block has a number, and none above the greatest.
-pub as_run_within : (b : AsBlock) → ((as_run b).first ≤ (as_run b).last) × ((as_run b).last ≤ last_number)
+pub as_run_within : (b : AsBlock) → ((as_run b).first ≤ (as_run b).last)
+    × ((as_run b).last ≤ last_number)
 as_run_within (Id n) = (le_refl n.value, n.in_range)
 as_run_within (Range r) = (r.ordered, r.last.in_range)
 

@@ -25,4 +25,5 @@ ordered_one = record { one = λ ts x y p q. ends_one.one ts x y p.are q.are }
 
 -- A value is one block.
 pub block_one : One IsAsBlock
-block_one = one_of_one id_tagged range_tagged (universal_apart (λ e. omega arith)) (as_one (octets_one unsigned_one)) (as_one (inside_one ordered_one))
+block_one = one_of_one id_tagged range_tagged (universal_apart (λ e. omega arith))
+    (as_one (octets_one unsigned_one)) (as_one (inside_one ordered_one))

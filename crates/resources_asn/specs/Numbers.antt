@@ -23,7 +23,8 @@ pub uncapped : (a : Number) → number_at (min a.value last_number) (capped a.va
 uncapped a = made_alike number_at (min a.value last_number) a.value (capped a.value) a.in_range (let h = a.in_range in omega arith)
 
 abbrev pub number_code : Coded Number
-number_code = code_by ℕ coded_ℕ (λ a. a.value) (λ n. number_at (min n last_number) (capped n)) uncapped
+number_code =
+    code_by ℕ coded_ℕ (λ a. a.value) (λ n. number_at (min n last_number) (capped n)) uncapped
 
 -- Numbers of one value are one.
 pub same_number : (a b : Number) → a.value ≡ b.value → a ≡ b

@@ -21,14 +21,16 @@ origin_value o = record { prefix = o.prefix; max_len = o.max_len; asn = o.asn.va
 
 -- By prefix, whose order is by family, first address and length, then by greatest length, then by AS number.
 abbrev pub origin_cmp : OriginValue → OriginValue → Ordering
-origin_cmp x y = ordering_then (start_cmp x.prefix y.prefix) (ordering_then (nat_cmp x.max_len y.max_len) (nat_cmp x.asn y.asn))
+origin_cmp x y = ordering_then (start_cmp x.prefix y.prefix)
+    (ordering_then (nat_cmp x.max_len y.max_len) (nat_cmp x.asn y.asn))
 
 pub origin_total : IsTotalOrder origin_cmp
 origin_total =
     then_total (on_total (λ x. x.prefix) start_total)
     (then_total (on_total (λ x. x.max_len) nat_cmp_total) (on_total (λ x. x.asn) nat_cmp_total))
 
-origin_is : {x y : OriginValue} → x.prefix ≡ y.prefix → x.max_len ≡ y.max_len → x.asn ≡ y.asn → x ≡ y
+origin_is : {x y : OriginValue} → x.prefix ≡ y.prefix → x.max_len ≡ y.max_len → x.asn ≡ y.asn
+    → x ≡ y
 origin_is p m a = λ i. record { prefix = p i; max_len = m i; asn = a i }
 
 -- Only equal origins aren't told apart.
@@ -37,6 +39,7 @@ origin_same x y = (
   λ e.
       let one = both_equal (start_cmp x.prefix y.prefix) (ordering_then (nat_cmp x.max_len y.max_len) (nat_cmp x.asn y.asn)) e in
       let two = both_equal (nat_cmp x.max_len y.max_len) (nat_cmp x.asn y.asn) one.1 in
-      origin_is ((start_same x.prefix y.prefix).0 one.0) (nat_same x.max_len y.max_len two.0) (nat_same x.asn y.asn two.1),
+      origin_is ((start_same x.prefix y.prefix).0 one.0) (nat_same x.max_len y.max_len two.0)
+      (nat_same x.asn y.asn two.1),
   λ e. subst (λ (z : OriginValue). origin_cmp x z ≡ Equal) e (tied_itself origin_total x),
 )

@@ -35,12 +35,16 @@ larger_is r = made_alike number_at (max r.first.value r.last.value) r.last.value
 abbrev pub range_at : (first last : Number) → first.value ≤ last.value → Range
 range_at first last h = record { first = first; last = last; ordered = h }
 
-range_alike : (first a b : Number) (p : first.value ≤ a.value) (q : first.value ≤ b.value) → a ≡ b → range_at first a p ≡ range_at first b q
+range_alike : (first a b : Number) (p : first.value ≤ a.value) (q : first.value ≤ b.value) → a ≡ b
+    → range_at first a p ≡ range_at first b q
 range_alike first a b p q e =
-    subst (λ (z : Number). (h : first.value ≤ z.value) → range_at first a p ≡ range_at first z h) e (λ h. ap (λ (t : first.value ≤ a.value). range_at first a t) (le_prop p h)) q
+    subst (λ (z : Number). (h : first.value ≤ z.value) → range_at first a p ≡ range_at first z h) e
+    (λ h. ap (λ (t : first.value ≤ a.value). range_at first a t) (le_prop p h)) q
 
 pub range_of_ends : (r : Range) → range_of (r.first, r.last) ≡ r
-range_of_ends r = range_alike r.first (larger r.first r.last) r.last (larger_above r.first r.last) r.ordered (larger_is r)
+range_of_ends r = range_alike r.first (larger r.first r.last) r.last
+    (larger_above r.first r.last) r.ordered (larger_is r)
 
 abbrev pub range_code : Coded Range
-range_code = code_by (Number × Number) (coded× number_code number_code) (λ r. (r.first, r.last)) range_of range_of_ends
+range_code = code_by (Number × Number) (coded× number_code number_code)
+    (λ r. (r.first, r.last)) range_of range_of_ends

@@ -17,7 +17,9 @@ IsLetters front = map to_ascii_lowercase front ≡ codes "as"
 
 -- The digits alone, or after the letters.
 abbrev pub IsAsnText : List ℕ → ℕ → Type 0
-IsAsnText text n = IsDigitText text n ⊎ ((front digits : List ℕ) × (text ≡ front ++ digits) × IsLetters front × IsDigitText digits n)
+IsAsnText text n =
+    IsDigitText text n
+    ⊎ ((front digits : List ℕ) × (text ≡ front ++ digits) × IsLetters front × IsDigitText digits n)
 
 -- The answer is the number of the text; or it is the text of none.
 abbrev pub Reads : List ℕ → Result Number ParseAsnError → Type 0

@@ -40,22 +40,6 @@ pub fn v6_resources(alloc: Global, text: &str) -> Result<IpResources> {
     }
 }
 
-// The prefixes of a range of IPv4 addresses.
-fn v4_prefixes(answer: &mut Answer, range: AddressRange) {
-    for prefix in range.to_v4_prefixes() {
-        answer.join_as(&IpBlock::Prefix(prefix).display_v4());
-        answer.join(";");
-    }
-}
-
-// The prefixes of a range of IPv6 addresses.
-fn v6_prefixes(answer: &mut Answer, range: AddressRange) {
-    for prefix in range.to_v6_prefixes() {
-        answer.join_as(&IpBlock::Prefix(prefix).display_v6());
-        answer.join(";");
-    }
-}
-
 impl Family {
     // The set of a text.
     fn set(self, alloc: Global, text: &str) -> Result<IpBlocks> {
@@ -117,16 +101,7 @@ impl Family {
         }
     }
 
-    // The addresses outside of an issuer's set.
-    fn refuse(self, answer: &mut Answer, outside: OverclaimedIpResources) {
-        answer.word("refused: ");
-        match self {
-            Family::V4 => answer.join_as(&outside.v4()),
-            Family::V6 => answer.join_as(&outside.v6()),
-        }
-    }
-
-    // What is held, or the addresses outside.
+    // What is held, or the addresses outside of an issuer's set.
     fn held(
         self,
         answer: &mut Answer,
@@ -134,7 +109,13 @@ impl Family {
     ) {
         match verdict {
             Ok(held) => self.join(answer, &held),
-            Err(ClaimError::Overclaimed(outside)) => self.refuse(answer, outside),
+            Err(ClaimError::Overclaimed(outside)) => {
+                answer.word("refused: ");
+                match self {
+                    Family::V4 => answer.join_as(&outside.v4()),
+                    Family::V6 => answer.join_as(&outside.v6()),
+                }
+            }
             Err(ClaimError::Memory) => answer.word("out of memory"),
         }
     }
@@ -277,8 +258,18 @@ impl Family {
     // The prefixes of the range of a text.
     fn prefixes(self, answer: &mut Answer, text: &str) -> Result<()> {
         match self {
-            Family::V4 => v4_prefixes(answer, AddressRange::from_v4_str(text)?),
-            Family::V6 => v6_prefixes(answer, AddressRange::from_v6_str(text)?),
+            Family::V4 => {
+                for prefix in AddressRange::from_v4_str(text)?.to_v4_prefixes() {
+                    answer.join_as(&IpBlock::Prefix(prefix).display_v4());
+                    answer.join(";");
+                }
+            }
+            Family::V6 => {
+                for prefix in AddressRange::from_v6_str(text)?.to_v6_prefixes() {
+                    answer.join_as(&IpBlock::Prefix(prefix).display_v6());
+                    answer.join(";");
+                }
+            }
         }
         Ok(())
     }

@@ -48,6 +48,13 @@ module _ (Writes : List ℕ → Run → Type 0) where
   leaves_last text (s ∷ []) rest r (p, b, d, v, e) n w = (p, b, d, v, subst (λ (t : List ℕ). HasNoComma t × Writes t r) (sym e) (n, w))
   leaves_last text (s ∷ t ∷ runs) rest r (p, b, d, v, l) n w = (p, b, d, v, leaves_last b (t ∷ runs) rest r l n w)
 
+  -- A piece is faulty: one that a comma stands behind, or the last.
+  pub fault_next : {Faulty : List ℕ → Type 0} (text : List ℕ) (runs : List Run) (rest piece behind : List ℕ) → Leaves Writes text runs rest → CutsPiece rest piece behind → Faulty piece → HasFault Writes Faulty text
+  fault_next text runs rest piece behind l c f = record { runs = runs; rest = rest; piece = piece; leaves = l; first = inr (behind, c); faulty = f }
+
+  pub fault_last : {Faulty : List ℕ → Type 0} (text : List ℕ) (runs : List Run) (rest : List ℕ) → Leaves Writes text runs rest → HasNoComma rest → Faulty rest → HasFault Writes Faulty text
+  fault_last text runs rest l n f = record { runs = runs; rest = rest; piece = rest; leaves = l; first = inl (n, refl); faulty = f }
+
   -- Where a piece writes one run and the empty text none, a text is that of one list and of one set.
   module _ (once : (text : List ℕ) (r s : Run) → Writes text r → Writes text s → r ≡ s) (some : (r : Run) → ¬ (Writes [] r)) where
     no_cut_of_none : (piece rest : List ℕ) → ¬ (CutsPiece [] piece rest)

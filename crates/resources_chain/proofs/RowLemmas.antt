@@ -1,8 +1,8 @@
 -- The search that halves a row.
-use Rattle.std.proofs.Common.{◌≡◌, ◌≢◌, ℕ, zero, suc, ◌+◌, ◌-◌, ◌*◌, ◌/◌, ◌<◌, ◌≤◌, ◌^◌, inl, inr, refl, sym, ◌∙◌, arith}
+use Rattle.std.proofs.Common.{◌≡◌, ◌≢◌, ℕ, zero, suc, ◌+◌, ◌-◌, ◌*◌, ◌/◌, ◌<◌, ◌≤◌, ◌^◌, inl, inr, sym, ◌∙◌, arith}
 use Rattle.std.specs.declared.cmp.Ordering.{Ordering}
 use Rattle.std.specs.declared.cmp.Ordering.TheVariants.{Less, Equal, Greater}
-use Rattle.resources_chain.specs.Rows.{IsOrdered, Looks}
+use Rattle.resources_chain.specs.Rows.{IsOrdered}
 use Rattle.resources_chain.proofs.RunLemmas.{le_or_lt}
 
 -- So many places are left and so many looks were made: for each number of digits that writes the size, as many looks less
@@ -20,17 +20,6 @@ pub record Halving (size : ℕ) (stands : ℕ → Ordering) (old now : ℕ) (pla
   pub order : low ≤ high
   pub within : high ≤ size
   pub left : Left size old count (high - low)
-
-pub halving_start : (size : ℕ) (stands : ℕ → Ordering) (old len : ℕ) → len ≡ size → Halving size stands old size stands old 0 len
-halving_start size stands old len e = record {
-  same_size = refl;
-  same_places = λ k. refl;
-  below = λ k h. absurd (omega arith);
-  behind = λ k h within. absurd (omega arith);
-  order = omega arith;
-  within = omega arith;
-  left = record { more = omega arith; few = λ digits h. (digits, omega arith, omega arith) };
-}
 
 halved : (rest gap less : ℕ) → gap < 2 ^ rest → 0 < gap → less ≤ gap / 2 → (fewer : ℕ) × (less < 2 ^ fewer) × (fewer + 1 ≡ rest)
 halved zero gap less h some l = absurd (omega arith)
@@ -52,9 +41,6 @@ has_room {gap = gap} l some fits room =
     let f = l.few 64 fits in
     let n = halved f.0 gap 0 f.1 some (omega arith) in
     omega (arith, f.2, n.2)
-
-pub looks_of : {size old count gap : ℕ} → Left size old count gap → Looks size old count
-looks_of l = record { more = l.more; few = λ digits d. let f = l.few digits d in omega (arith, f.2) }
 
 -- The place in the middle is before what is sought.
 pub halving_less : {size : ℕ} {stands : ℕ → Ordering} {old now : ℕ} {places : ℕ → Ordering} {count low high : ℕ} (next : ℕ) (after : ℕ → Ordering) (looks middle : ℕ) → IsOrdered size stands → Halving size stands old now places count low high → low < high → middle ≡ low + (high - low) / 2 → next ≡ now → ((k : ℕ) → after k ≡ places k) → looks ≡ count + 1 → places middle ≡ Less → Halving size stands old next after looks (middle + 1) high

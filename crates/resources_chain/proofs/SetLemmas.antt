@@ -128,10 +128,6 @@ inside_exactly a b = (λ f n d. d.1 (f n d.0), λ f n i. elim (decides b n) [ in
 pub both_or_only : (a b : List Run) (n : ℕ) → InRuns a n ↔ (InBoth a b n ⊎ InFirstOnly a b n)
 both_or_only a b n = (λ i. elim (decides b n) [ inl j ↦ inl (i, j) | inr out ↦ inr (i, out) ], λ h. elim h [ inl j ↦ j.0 | inr j ↦ j.0 ])
 
--- Where a set is inside another, it is what they have in common.
-pub inside_both : (a b c : List Run) → IsInside a b → IsRunsOf (InBoth a b) c → (n : ℕ) → InRuns c n ↔ InRuns a n
-inside_both a b c f r n = (λ i. ((r.same n).0 i).0, λ i. (r.same n).1 (i, f n i))
-
 -- The set without numbers has the empty list.
 pub no_list : {a : List Run} → IsRunsOf (λ n. ⊥) a → a ≡ []
 no_list {a} r = one_list a [] r.maximal tt (λ n. (λ i. (r.same n).0 i, λ i. absurd i))

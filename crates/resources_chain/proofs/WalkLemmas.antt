@@ -3,7 +3,7 @@ use Rattle.std.proofs.Common.{◌≡◌, ℕ, ◌+◌, ◌<◌, ◌≤◌, ◌�
 use Rattle.std.proofs.lemmas.List.{map-append, take-map, length-map}
 use Rattle.std.proofs.lemmas.Bool.{eqb-true}
 use Rattle.std.proofs.Math.Seq.{take-append_seam}
-use Rattle.resources_chain.specs.Sets.{Run, InRun, InRuns, StandsApart, AreMaximal, IsRunsOf, Touch, InEither, InBoth, InFirstOnly, IsInside}
+use Rattle.resources_chain.specs.Sets.{Run, InRun, InRuns, StandsApart, AreMaximal, IsRunsOf, Touch, InBoth, InFirstOnly, IsInside}
 use Rattle.resources_chain.specs.Walks.{BeginBy, AreAscending, BeginByFirst, BeginFrom, FirstReaches, Adds, AddsSet, SameFrom, InsideUpTo, FirstOutside}
 use Rattle.resources_chain.proofs.RunLemmas.{le_or_lt}
 use Rattle.resources_chain.proofs.SetLemmas.{past_gap, least, in_append}
@@ -48,18 +48,9 @@ snoc_begin [] r k b = (tt, b.0)
 snoc_begin (s ∷ rs) r k b = let h = snoc_begin rs r k b.1 in ((b.0, h.0), h.1)
 
 in_snoc : (rs : List Run) (r : Run) (n : ℕ) → InRuns (rs ++ r ∷ []) n ↔ (InRuns rs n ⊎ InRun r n)
-in_snoc [] r n = (λ i. elim i [ inl j ↦ inr j | inr j ↦ absurd j ], λ i. elim i [ inl j ↦ absurd j | inr j ↦ inl j ])
-in_snoc (s ∷ rs) r n =
-    let h = in_snoc rs r n in (
-      λ i. elim i [
-        | inl j ↦ inl (inl j)
-        | inr j ↦ elim (h.0 j) [ inl k ↦ inl (inr k) | inr k ↦ inr k ]
-      ],
-      λ i. elim i [
-        | inl j ↦ elim j [ inl k ↦ inl k | inr k ↦ inr (h.1 (inl k)) ]
-        | inr j ↦ inr (h.1 (inr j))
-      ],
-    )
+in_snoc rs r n =
+    let h = in_append rs (r ∷ []) n in
+    (λ i. elim (h.0 i) [ inl j ↦ inl j | inr j ↦ elim j [ inl k ↦ inr k | inr k ↦ absurd k ] ], λ i. h.1 (elim i [ inl j ↦ inl j | inr j ↦ inr (inl j) ]))
 
 apart_snoc : (k : ℕ) (rs : List Run) (r : Run) → StandsApart k rs → k + 1 < r.first → StandsApart k (rs ++ r ∷ [])
 apart_snoc k [] r a h = (h, tt)
@@ -201,16 +192,6 @@ outside_goes_on {block = block} {piece} {part} {f} {behind = behind} o a below f
       left = skip_first o.left (omega arith);
     }
 
--- No run is left that takes from the piece.
-pub outside_rest : {old new next : List Run} {block piece : Run} {taken : List Run} → Outside old new block piece taken [] → Adds new next piece → AddsSet old next (λ n. InRun block n × ¬ (InRuns taken n))
-outside_rest o a = record {
-  maximal = a.maximal;
-  same = λ n. (
-    λ i. (o.same n).0 (elim ((a.same n).0 i) [ inl j ↦ inl j | inr j ↦ inr (j, λ w. w) ]),
-    λ i. (a.same n).1 (elim ((o.same n).1 i) [ inl j ↦ inl j | inr j ↦ inr j.0 ]),
-  );
-}
-
 -- What two lists have found of their difference, and what is left of both.
 pub record Differs (a b found rest taken : List Run) : Type 0 where
   pub maximal : AreMaximal found
@@ -218,15 +199,6 @@ pub record Differs (a b found rest taken : List Run) : Type 0 where
   pub taken_maximal : AreMaximal taken
   pub below : (m n : ℕ) → InRuns found m → InRuns rest n → m < n
   pub same : (n : ℕ) → (InRuns found n ⊎ (InRuns rest n × ¬ (InRuns taken n))) ↔ InFirstOnly a b n
-
-pub differs_start : {a b : List Run} → AreMaximal a → AreMaximal b → Differs a b [] a b
-differs_start m k = record {
-  maximal = tt;
-  rest_maximal = m;
-  taken_maximal = k;
-  below = λ x y i. absurd i;
-  same = λ n. (λ i. elim i [ inl j ↦ absurd j | inr j ↦ j ], λ i. inr i);
-}
 
 pub differs_at : {a b found rest taken s : List Run} → Differs a b found rest taken → rest ≡ s → Differs a b found s taken
 differs_at {a} {b} {found} {rest} {taken} d e = subst (λ (x : List Run). Differs a b found x taken) e d
@@ -273,9 +245,6 @@ same_on s t h = record {
   same = λ n low. (λ i. (s.same n (omega arith)).0 ((t.same n low).0 i), λ i. (t.same n low).1 ((s.same n (omega arith)).1 i));
 }
 
-pub differs_end : {a b found taken : List Run} → Differs a b found [] taken → IsRunsOf (InFirstOnly a b) found
-differs_end d = record { maximal = d.maximal; same = λ n. (λ i. (d.same n).0 (inl i), λ i. elim ((d.same n).1 i) [ inl j ↦ j | inr j ↦ absurd j.0 ]) }
-
 -- The set P, as what is found of it and what is left of two lists that have the rest of it in common.
 pub record Meets (P : ℕ → Type 0) (found left right : List Run) : Type 0 where
   pub maximal : AreMaximal found
@@ -283,15 +252,6 @@ pub record Meets (P : ℕ → Type 0) (found left right : List Run) : Type 0 whe
   pub right_maximal : AreMaximal right
   pub below : (m n : ℕ) → InRuns found m → InRuns left n → InRuns right n → m < n
   pub same : (n : ℕ) → (InRuns found n ⊎ (InRuns left n × InRuns right n)) ↔ P n
-
-pub meets_start : {found a b : List Run} → AreMaximal found → AreMaximal a → AreMaximal b → ((m n : ℕ) → InRuns found m → InRuns a n → InRuns b n → m < n) → Meets (λ n. InRuns found n ⊎ InBoth a b n) found a b
-meets_start f m k below = record {
-  maximal = f;
-  left_maximal = m;
-  right_maximal = k;
-  below = below;
-  same = λ n. (λ i. i, λ i. i);
-}
 
 pub meets_at : {P : ℕ → Type 0} {found left right s t : List Run} → Meets P found left right → left ≡ s → right ≡ t → Meets P found s t
 meets_at {P} {found} {left} {right} {s} m e q = subst (λ (x : List Run). Meets P found s x) q (subst (λ (x : List Run). Meets P found x right) e m)
@@ -419,9 +379,6 @@ maximal_append (s ∷ f) r m =
 pub parts_of : {a b rest left : List Run} → (u : InsideUpTo a b rest left) → AreMaximal u.front × AreMaximal rest × ((m n : ℕ) → InRuns u.front m → InRuns rest n → m < n)
 parts_of {rest = rest} u = maximal_append u.front rest (subst (λ (s : List Run). AreMaximal s) u.whole u.maximal)
 
-pub up_to_start : {a b : List Run} → AreMaximal a → AreMaximal b → InsideUpTo a b a b
-up_to_start m k = record { front = []; whole = refl; inside = λ n i. absurd i; maximal = m; left_maximal = k; same = λ n i. (λ j. j, λ j. j) }
-
 pub up_to_at : {a b rest left s t : List Run} → InsideUpTo a b rest left → rest ≡ s → left ≡ t → InsideUpTo a b s t
 up_to_at {a} {b} {rest} {left} {s} u e q = subst (λ (x : List Run). InsideUpTo a b s x) q (subst (λ (x : List Run). InsideUpTo a b x left) e u)
 
@@ -527,9 +484,6 @@ pub record Joins (P : ℕ → Type 0) (found rest : List Run) : Type 0 where
 pub joins_at : {P : ℕ → Type 0} {found rest s : List Run} → Joins P found rest → rest ≡ s → Joins P found s
 joins_at {P} {found} j e = subst (λ (x : List Run). Joins P found x) e j
 
-pub joins_start : (found rest : List Run) → AreMaximal found → AreAscending rest → BeginByFirst found rest → Joins (λ n. InRuns found n ⊎ InRuns rest n) found rest
-joins_start found rest m a b = record { maximal = m; ascending = a; order = b; same = λ n. (λ i. i, λ i. i) }
-
 joins_order : (found rest : List Run) (f : Run) → AreAscending (f ∷ rest) → BeginBy f.first found → AreAscending rest × BeginByFirst found rest
 joins_order found [] f a b = (tt, tt)
 joins_order found (r ∷ rest) f a b = (a.1, begin_mono found f.first r.first b a.0)
@@ -553,9 +507,6 @@ joins_step {next = next} {behind} {f} j s =
       );
     }
 
-pub joins_end : {found : List Run} (old all : List Run) → Joins (λ n. InRuns old n ⊎ InRuns all n) found [] → AddsSet old found (InRuns all)
-joins_end old all j = record { maximal = j.maximal; same = λ n. (λ i. (j.same n).0 (inl i), λ i. elim ((j.same n).1 i) [ inl k ↦ k | inr k ↦ absurd k ]) }
-
 -- Where nothing is there yet, blocks may begin anywhere.
 pub begins_none : (rest : List Run) → BeginByFirst [] rest
 begins_none [] = tt
@@ -575,17 +526,6 @@ pub record Merges (P : ℕ → Type 0) (found left right : List Run) : Type 0 wh
   pub left_order : BeginByFirst found left
   pub right_order : BeginByFirst found right
   pub same : (n : ℕ) → (InRuns found n ⊎ (InRuns left n ⊎ InRuns right n)) ↔ P n
-
-pub merges_start : (a b : List Run) → AreMaximal a → AreMaximal b → Merges (InEither a b) [] a b
-merges_start a b m k =
-    record {
-      maximal = tt;
-      left_maximal = m;
-      right_maximal = k;
-      left_order = begins_none a;
-      right_order = begins_none b;
-      same = λ n. (λ i. elim i [ inl j ↦ absurd j | inr j ↦ j ], λ i. inr i);
-    }
 
 pub merges_at : {P : ℕ → Type 0} {found left right s t : List Run} → Merges P found left right → left ≡ s → right ≡ t → Merges P found s t
 merges_at {P} {found} {left} {right} {s} m e q = subst (λ (x : List Run). Merges P found s x) q (subst (λ (x : List Run). Merges P found x right) e m)
@@ -639,14 +579,3 @@ merges_left {next = next} {left} {right} {x} m s e f =
 -- The run on the right begins first.
 pub merges_right : {P : ℕ → Type 0} {found next left right : List Run} {x y : Run} {k : ℕ} → Merges P found (x ∷ left) (y ∷ right) → Adds found next y → k ≡ x.first → y.first < k → Merges P next (x ∷ left) right
 merges_right {x = x} {y} m s e f = merges_swap (merges_left (merges_swap m) s refl (omega arith))
-
--- Nothing is left on the left, and what is on the right is added.
-pub merges_end : {P : ℕ → Type 0} {found next right : List Run} → Merges P found [] right → AddsSet found next (InRuns right) → IsRunsOf P next
-merges_end m s =
-    record {
-      maximal = s.maximal;
-      same = λ n. (
-        λ i. (m.same n).0 (elim ((s.same n).0 i) [ inl j ↦ inl j | inr j ↦ inr (inr j) ]),
-        λ i. (s.same n).1 (elim ((m.same n).1 i) [ inl j ↦ inl j | inr j ↦ elim j [ inl k ↦ absurd k | inr k ↦ inr k ] ]),
-      );
-    }

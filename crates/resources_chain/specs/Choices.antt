@@ -11,13 +11,16 @@ choice_map f Inherit = Inherit
 choice_map f (Blocks blocks) = Blocks (f blocks)
 
 -- The second choice is the first, with something that the relation allows for the set that it lists.
-abbrev pub MapsTo : {T U : Type 0} → (T → U → Type 0) → ResourcesChoice T → ResourcesChoice U → Type 0
+abbrev pub MapsTo : {T U : Type 0} → (T → U → Type 0) → ResourcesChoice T → ResourcesChoice U
+    → Type 0
 MapsTo gives Missing choice = choice ≡ Missing
 MapsTo gives Inherit choice = choice ≡ Inherit
-MapsTo {U = U} gives (Blocks blocks) choice = (made : U) × (choice ≡ Blocks made) × gives blocks made
+MapsTo {U = U} gives (Blocks blocks) choice =
+    (made : U) × (choice ≡ Blocks made) × gives blocks made
 
 -- The set of a choice that doesn't inherit: one that stands for none, or a clone of the set that it lists.
-abbrev pub TurnsInto : {T : Type 0} → (T → Type 0) → (T → T → Type 0) → ResourcesChoice T → T → Type 0
+abbrev pub TurnsInto : {T : Type 0} → (T → Type 0) → (T → T → Type 0) → ResourcesChoice T → T
+    → Type 0
 TurnsInto is_none is_clone Missing made = is_none made
 TurnsInto is_none is_clone Inherit made = ⊥
 TurnsInto is_none is_clone (Blocks blocks) made = is_clone blocks made

@@ -47,7 +47,8 @@ abbrev pub Overclaims : Choice → (ℕ → Type 0) → ℕ → Type 0
 Overclaims choice held n = Lists choice n × ¬ (held n)
 
 -- The claim doesn't fit, and these are the numbers that it lists and that aren't held, of which there are some.
-pub record Unfit (mode : Overclaim) (choice : Choice) (held : ℕ → Type 0) (numbers : List Run) : Type 0 where
+pub record Unfit (mode : Overclaim) (choice : Choice) (held : ℕ → Type 0) (numbers : List Run)
+    : Type 0 where
   pub refused : ¬ (FitsIn mode choice held)
   pub outside : IsRunsOf (Overclaims choice held) numbers
   pub some : (n : ℕ) × Overclaims choice held n
@@ -76,7 +77,9 @@ HeldAlong held path n = held n × AllKeep path n
 
 -- Each certificate fits in what is held along the path before it.
 abbrev pub FitsAlong : (ℕ → Type 0) → Path → Type 0
-FitsAlong held path = (front : Path) (claim : Choice × Overclaim) (behind : Path) → path ≡ front ++ claim ∷ behind → FitsIn claim.1 claim.0 (HeldAlong held front)
+FitsAlong held path =
+    (front : Path) (claim : Choice × Overclaim) (behind : Path) → path ≡ front ++ claim ∷ behind
+    → FitsIn claim.1 claim.0 (HeldAlong held front)
 
 -- The first certificate of the path that doesn't fit, and the numbers that it lists and that aren't held before it.
 pub record UnfitAlong (held : ℕ → Type 0) (path : Path) (numbers : List Run) : Type 0 where

@@ -1,7 +1,7 @@
 -- The three kinds of numbers that certificates list: IPv4 addresses, IPv6 addresses and AS numbers (RFC 3779 2, 3).
 use Rattle.std.specs.Prelude.{ℕ, ◌*◌, ◌^◌, ◌<◌, List}
 use Rattle.resources_chain.specs.Sets.{Run, InRuns}
-use Rattle.resources_chain.specs.Claims.{Choice, Lists, Keeps}
+use Rattle.resources_chain.specs.Claims.{Choice, Keeps}
 
 pub data Kind : Type 0 where
   Ipv4 : Kind
@@ -25,9 +25,6 @@ place As n = n
 -- The number of the kind is in the set, the choice lists it, the choice lists it or inherits.
 abbrev pub HasNumber : Kind → List Run → ℕ → Type 0
 HasNumber kind runs n = (n < limit kind) × InRuns runs (place kind n)
-
-abbrev pub ListsNumber : Kind → Choice → ℕ → Type 0
-ListsNumber kind choice n = (n < limit kind) × Lists choice (place kind n)
 
 abbrev pub KeepsNumber : Kind → Choice → ℕ → Type 0
 KeepsNumber kind choice n = (n < limit kind) × Keeps choice (place kind n)

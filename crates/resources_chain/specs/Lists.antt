@@ -18,10 +18,13 @@ pub record CutsPiece (text piece rest : List ℕ) : Type 0 where
 abbrev pub IsListText : (List ℕ → Run → Type 0) → List ℕ → List Run → Type 0
 IsListText Writes text [] = text ≡ []
 IsListText Writes text (r ∷ []) = HasNoComma text × Writes text r
-IsListText Writes text (r ∷ s ∷ runs) = (piece rest : List ℕ) × CutsPiece text piece rest × Writes piece r × IsListText Writes rest (s ∷ runs)
+IsListText Writes text (r ∷ s ∷ runs) =
+    (piece rest : List ℕ) × CutsPiece text piece rest × Writes piece r
+    × IsListText Writes rest (s ∷ runs)
 
 -- The set is the union of the runs, as its maximal runs.
-pub record IsSetText (Writes : List ℕ → Run → Type 0) (text : List ℕ) (set : List Run) : Type 0 where
+pub record IsSetText (Writes : List ℕ → Run → Type 0) (text : List ℕ) (set : List Run)
+    : Type 0 where
   pub runs : List Run
   pub are : IsListText Writes text runs
   pub union : IsRunsOf (InRuns runs) set
@@ -29,14 +32,18 @@ pub record IsSetText (Writes : List ℕ → Run → Type 0) (text : List ℕ) (s
 -- The first pieces write these runs, and this is left after the last of their commas and its space.
 abbrev pub Leaves : (List ℕ → Run → Type 0) → List ℕ → List Run → List ℕ → Type 0
 Leaves Writes text [] rest = text ≡ rest
-Leaves Writes text (r ∷ runs) rest = (piece behind : List ℕ) × CutsPiece text piece behind × Writes piece r × Leaves Writes behind runs rest
+Leaves Writes text (r ∷ runs) rest =
+    (piece behind : List ℕ) × CutsPiece text piece behind × Writes piece r
+    × Leaves Writes behind runs rest
 
 -- What stands before the first comma, or all where there is none.
 abbrev pub IsFirstPiece : List ℕ → List ℕ → Type 0
-IsFirstPiece text piece = (HasNoComma text × (text ≡ piece)) ⊎ ((rest : List ℕ) × CutsPiece text piece rest)
+IsFirstPiece text piece =
+    (HasNoComma text × (text ≡ piece)) ⊎ ((rest : List ℕ) × CutsPiece text piece rest)
 
 -- A piece is faulty, and those before it write runs.
-pub record HasFault (Writes : List ℕ → Run → Type 0) (Faulty : List ℕ → Type 0) (text : List ℕ) : Type 0 where
+pub record HasFault (Writes : List ℕ → Run → Type 0) (Faulty : List ℕ → Type 0) (text : List ℕ)
+    : Type 0 where
   pub runs : List Run
   pub rest : List ℕ
   pub piece : List ℕ
@@ -45,6 +52,7 @@ pub record HasFault (Writes : List ℕ → Run → Type 0) (Faulty : List ℕ �
   pub faulty : Faulty piece
 
 -- So the text is that of no list.
-pub record IsNoListText (Writes : List ℕ → Run → Type 0) (Faulty : List ℕ → Type 0) (text : List ℕ) : Type 0 where
+pub record IsNoListText (Writes : List ℕ → Run → Type 0) (Faulty : List ℕ → Type 0) (text : List ℕ)
+    : Type 0 where
   pub fault : HasFault Writes Faulty text
   pub none : (runs : List Run) → ¬ (IsListText Writes text runs)

@@ -9,6 +9,6 @@ abbrev pub IsOrdered : ℕ → (ℕ → Ordering) → Type 0
 IsOrdered size stands = (i j : ℕ) → i < j → j < size → (stands i ≡ Less) ⊎ (stands j ≡ Greater)
 
 -- A count that has grown by no more than the size has binary digits; 0 has none.
-pub record Looks (size old new : ℕ) : Type 0 where
+pub record ProbesAtMost (size old new : ℕ) : Type 0 where
   pub more : old ≤ new
   pub few : (digits : ℕ) → size < 2 ^ digits → new ≤ old + digits

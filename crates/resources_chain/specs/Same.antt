@@ -20,8 +20,10 @@ all_three false b c = (λ t. absurd cc, λ t. absurd (let h : false ≡ true = t
 -- Runs of equal bounds are one.
 pub run_is : {r s : Run} → r.first ≡ s.first → r.last ≡ s.last → r ≡ s
 run_is {r} {s} f l =
-    let one : r ≡ record { first = s.first; last = r.last } = ap (λ (x : ℕ). let t : Run = record { first = x; last = r.last } in t) f in
-    let two : record { first = s.first; last = r.last } ≡ s = ap (λ (x : ℕ). let t : Run = record { first = s.first; last = x } in t) l in
+    let one : r ≡ record { first = s.first; last = r.last } =
+    ap (λ (x : ℕ). let t : Run = record { first = x; last = r.last } in t) f in
+    let two : record { first = s.first; last = r.last } ≡ s =
+    ap (λ (x : ℕ). let t : Run = record { first = s.first; last = x } in t) l in
     one ∙ two
 
 -- The test decides equality.
@@ -33,13 +35,18 @@ runs_eq_tells (r ∷ rs) (s ∷ ss) =
     let three = all_three (r.first == s.first) (r.last == s.last) (runs_eq rs ss) in (
       λ t.
           let parts = three.0 t in
-          let heads : r ≡ s = run_is (eqb-true r.first s.first parts.0) (eqb-true r.last s.last parts.1) in
+          let heads : r ≡ s =
+          run_is (eqb-true r.first s.first parts.0) (eqb-true r.last s.last parts.1) in
           let tails : rs ≡ ss = (runs_eq_tells rs ss).0 parts.2 in
           cc,
       λ e.
           let heads : r ≡ s = cc in
           let tails : rs ≡ ss = cc in
-          three.1 (eq-eqb r.first s.first (ap (λ (x : Run). x.first) heads), eq-eqb r.last s.last (ap (λ (x : Run). x.last) heads), (runs_eq_tells rs ss).1 tails),
+          three.1 (
+            eq-eqb r.first s.first (ap (λ (x : Run). x.first) heads),
+            eq-eqb r.last s.last (ap (λ (x : Run). x.last) heads),
+            (runs_eq_tells rs ss).1 tails,
+          ),
     )
 
 -- Tests that tell one thing give one answer.
@@ -52,8 +59,10 @@ one_answer false false f g = refl
 pub runs_eq_equiv : IsEquivalence runs_eq
 runs_eq_equiv = record {
   refl = λ x. (runs_eq_tells x x).1 refl;
-  symm = λ x y. one_answer {P = x ≡ y} (runs_eq x y) (runs_eq y x) (runs_eq_tells x y) (λ t. sym ((runs_eq_tells y x).0 t), λ e. (runs_eq_tells y x).1 (sym e));
+  symm = λ x y. one_answer {P = x ≡ y} (runs_eq x y) (runs_eq y x) (runs_eq_tells x y)
+      (λ t. sym ((runs_eq_tells y x).0 t), λ e. (runs_eq_tells y x).1 (sym e));
   congr = λ x y z t.
       let e : x ≡ y = (runs_eq_tells x y).0 t in
-      one_answer {P = x ≡ z} (runs_eq x z) (runs_eq y z) (runs_eq_tells x z) (λ h. e ∙ (runs_eq_tells y z).0 h, λ h. (runs_eq_tells y z).1 (sym e ∙ h));
+      one_answer {P = x ≡ z} (runs_eq x z) (runs_eq y z) (runs_eq_tells x z)
+      (λ h. e ∙ (runs_eq_tells y z).0 h, λ h. (runs_eq_tells y z).1 (sym e ∙ h));
 }

@@ -4,7 +4,7 @@ ghost use Rattle.std.specs.Prelude.{◌≡◌, ◌<◌, ◌≤◌, ℕ, ◌↔�
 ghost use Rattle.std.specs.Cmp.{partial_equiv_from_equiv};
 ghost use Rattle.std.specs.Iterator.{IsFinite, DrainsIf};
 ghost use Rattle.resources_chain.specs.Places.{run_at};
-ghost use Rattle.resources_chain.specs.Rows.{Looks};
+ghost use Rattle.resources_chain.specs.Rows.{ProbesAtMost};
 ghost use Rattle.resources_chain.specs.Sets.{InRun, InRuns, AreMaximal, IsRunsOf, InEither, InBoth, InFirstOnly, IsInside};
 ghost use Rattle.resources_chain.specs.Same.{runs_eq, runs_eq_equiv};
 
@@ -77,7 +77,7 @@ impl<'a, B: Block> Chain<'a, B> {
         requires { probes.old ≤ 18446744073709551551 }
         ensures place { MatchOption result (¬ (InRuns self.now (B.place item)))
             (λ k. (k < length self.now) × InRun (run_at self.now k) (B.place item)) }
-        ensures probes { Looks (length self.now) probes.old probes.new }
+        ensures probes { ProbesAtMost (length self.now) probes.old probes.new }
     {
         place_of(self.blocks, item, probes)
     }

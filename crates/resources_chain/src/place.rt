@@ -3,7 +3,7 @@
 ghost use Rattle.std.specs.Prelude.{◌≡◌, ◌+◌, ◌<◌, ◌≤◌, ◌-◌, ◌⊎◌, ℕ, MatchOption, length, map};
 ghost use Rattle.resources_chain.specs.Sets.{InRun, InRuns, AreMaximal};
 ghost use Rattle.resources_chain.specs.Places.{run_at, stand, reach};
-ghost use Rattle.resources_chain.specs.Rows.{Looks};
+ghost use Rattle.resources_chain.specs.Rows.{ProbesAtMost};
 ghost use Rattle.resources_chain.specs.Walks.{SameFrom, FirstReaches};
 
 use crate::block::{Block, comes_before};
@@ -95,7 +95,7 @@ pub(crate) fn place_of<B: Block>(blocks: &[B], item: B::Item, probes: &mut u64) 
     requires room { probes.old ≤ 18446744073709551551 }
     ensures place { MatchOption result (¬ (InRuns (map B.run blocks.now) (B.place item)))
         (λ k. (k < length blocks.now) × InRun (run_at (map B.run blocks.now) k) (B.place item)) }
-    ensures probes { Looks (length blocks.now) probes.old probes.new }
+    ensures probes { ProbesAtMost (length blocks.now) probes.old probes.new }
 {
     let mut row = Around {
         blocks,

@@ -3,7 +3,7 @@
 ghost use Rattle.std.specs.Prelude.{◌≡◌, ◌≢◌, ℕ, ◌+◌, ◌<◌, ◌≤◌, MatchOption};
 ghost use Rattle.std.specs.declared.cmp.Ordering.{Ordering as OrderingValue};
 ghost use Rattle.std.specs.declared.cmp.Ordering.TheVariants.{Equal};
-ghost use Rattle.resources_chain.specs.Rows.{IsOrdered, Looks};
+ghost use Rattle.resources_chain.specs.Rows.{IsOrdered, ProbesAtMost};
 
 use std::cmp::Ordering;
 
@@ -43,7 +43,7 @@ pub fn halve<R: Row>(row: &mut R) -> Option<usize>
     requires room { R.count row.old ≤ 18446744073709551551 }
     ensures place { MatchOption result ((k : ℕ) → k < R.size row.old → R.stands row.old k ≢ Equal)
         (λ k. (k < R.size row.old) × (R.stands row.old k ≡ Equal)) }
-    ensures looks { Looks (R.size row.old) (R.count row.old) (R.count row.new) }
+    ensures looks { ProbesAtMost (R.size row.old) (R.count row.old) (R.count row.new) }
     ensures same_size { R.size row.new ≡ R.size row.old }
     ensures same_places { (k : ℕ) → R.stands row.new k ≡ R.stands row.old k }
 {

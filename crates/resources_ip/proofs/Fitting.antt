@@ -105,10 +105,6 @@ pub given_list : {E : Type 0} (m : Mode) (family : AddressFamily) (v w : ValuesL
 given_list m family v w (Ok runs) g = list_fits m family g.tree runs g.is
 given_list m family v w (Err e) g = tt
 
-pub given_choice : {E : Type 0} (m : Mode) (family : AddressFamily) (v w : ValuesLeft) (r : Result Choice (DecodeError E)) → ReadsAs (λ r. r) (IsIpChoice m family) v r w → IfOk r (FitsChoice family)
-given_choice m family v w (Ok choice) g = choice_fits m family g.tree choice g.is
-given_choice m family v w (Err e) g = tt
-
 pub given_v4 : {E : Type 0} (m : Mode) (v w : ValuesLeft) (r : Result IpFamilies (DecodeError E)) → ReadsAs family_choices (IsIpAddrBlocks m) v r w → IfOk r (λ x. FitsChoice Ipv4 x.v4)
 given_v4 m v w (Ok x) g = (families_fit m g.tree (family_choices x) g.is).0
 given_v4 m v w (Err e) g = tt
@@ -121,6 +117,3 @@ given_v6 m v w (Err e) g = tt
 pub given_whole_v4 : {E : Type 0} (r : Result IpFamilies E) → IfOk r (λ x. FitsChoice Ipv4 x.v4) → IfOk r (λ x. ListsWhole x.v4)
 given_whole_v4 (Ok x) f = fits_whole x.v4 f
 given_whole_v4 (Err e) f = tt
-
-pub whole_if : (family : AddressFamily) (choice : Choice) → FitsChoice family choice → family ≡ Ipv4 → ListsWhole choice
-whole_if family choice f e = fits_whole choice (subst (λ (x : AddressFamily). FitsChoice x choice) e f)

@@ -1,5 +1,5 @@
 -- What reading blocks rests on.
-use Rattle.std.proofs.Common.{◌≡◌, List, [], ◌∷◌, ◌++◌, Result, refl, ◌∙◌, subst}
+use Rattle.std.proofs.Common.{◌≡◌, List, [], ◌∷◌, ◌++◌, Result, ◌∙◌, subst}
 use Rattle.std.specs.Result.{IsErr, IsErrAnd}
 use Rattle.resources_ip.specs.bcder_tree.declared.mode.Mode.{Mode}
 use Rattle.resources_ip.specs.bcder_source.Errors.{OnContent}
@@ -8,7 +8,7 @@ use Rattle.resources_ip.specs.bcder_content.Contents.{ValuesLeft, Ended}
 use Rattle.resources_ip.specs.bcder_content.Exact.{Gives, Lacks, LacksAll, GivesAll, ReadsAllAs}
 use Rattle.resources_ip.specs.bcder_content.Grammar.{Many}
 use Rattle.resources_ip.specs.bcder_content.Perhaps.{NoneNext}
-use Rattle.resources_ip.proofs.of_bcder_content.Forests.{Listing, begin, list_begin, list_next, list_stop_next}
+use Rattle.resources_ip.proofs.of_bcder_content.Forests.{Listing, list_next, list_stop_next}
 use Rattle.resources_ip.proofs.of_bcder_content.Perhaps.{list_done}
 use Rattle.resources_ip.proofs.of_bcder_content.Within.{AllWithin, all_gives, all_stop}
 use Rattle.resources_ip.specs.resources_chain.Sets.{Run, InRuns, IsRunsOf}
@@ -20,9 +20,6 @@ use Rattle.resources_ip.specs.Encodings.{AreBlocks}
 pub record Gathered (family : AddressFamily) (runs : List Run) (start now : ValuesLeft) : Type 0 where
   pub listing : Listing (Many (IsBlock start.mode family)) (IsBlock start.mode family) (λ (xs : List Run). xs) runs start now
   pub mode : now.mode ≡ start.mode
-
-pub gathered_first : (family : AddressFamily) (v : ValuesLeft) → Gathered family [] v v
-gathered_first family v = record { listing = list_begin (begin (Many (IsBlock v.mode family)) v); mode = refl }
 
 pub gathered_next : {family : AddressFamily} {xs ys : List Run} {run : Run} {start now new : ValuesLeft} → Gathered family xs start now → Gives (IsBlock now.mode family) now run new → ys ≡ xs ++ (run ∷ []) → Gathered family ys start new
 gathered_next {family} {run = run} {now = now} {new} s g e =

@@ -14,7 +14,8 @@ use Rattle.resources_ip_block.specs.BlockEncodings.{IsBlock}
 use Rattle.resources_ip.specs.resources_ip_prefix.Encodings.{IsFamily}
 
 -- addressesOrRanges SEQUENCE OF IPAddressOrRange (2.2.3.6), in any order: they mean their union.
-pub record AreBlocks (m : Mode) (family : AddressFamily) (ts : Trees) (set : List Run) : Type 0 where
+pub record AreBlocks (m : Mode) (family : AddressFamily) (ts : Trees) (set : List Run)
+    : Type 0 where
   pub runs : List Run
   pub are : Many (IsBlock m family) ts runs
   pub union : IsRunsOf (InRuns runs) set

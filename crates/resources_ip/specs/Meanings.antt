@@ -22,7 +22,8 @@ blocks_one : {m : Mode} (family : AddressFamily) → OneAll (AreBlocks m family)
 blocks_one family = record {
   one = λ ts x y p q.
       let same : p.runs ≡ q.runs = (many_one (block_one family)).one ts p.runs q.runs p.are q.are in
-      one_list_of p.union (subst (λ (runs : List Run). IsRunsOf (InRuns runs) y) (sym same) q.union);
+      one_list_of p.union (subst (λ (runs : List Run). IsRunsOf (InRuns runs) y)
+      (sym same) q.union);
 }
 
 -- A value lists one set.
@@ -38,22 +39,28 @@ pub inherit_tagged : Tagged null_tag Inherits
 inherit_tagged = as_tagged (octets_tagged _ _)
 
 -- A list has the tag of a SEQUENCE.
-pub list_tagged : {m : Mode} {family : AddressFamily} → Tagged sequence_tag (As (IsBlockList m family) lists)
+pub list_tagged : {m : Mode} {family : AddressFamily}
+    → Tagged sequence_tag (As (IsBlockList m family) lists)
 list_tagged = as_tagged (inside_tagged _ _)
 
 -- A value says one thing of a family.
 pub choice_one : {m : Mode} (family : AddressFamily) → One (IsIpChoice m family)
-choice_one family = one_of_one inherit_tagged list_tagged (universal_apart (λ e. omega arith)) (as_one (octets_one null_one)) (as_one (list_one family))
+choice_one family = one_of_one inherit_tagged list_tagged (universal_apart (λ e. omega arith))
+    (as_one (octets_one null_one)) (as_one (list_one family))
 
 -- The fields of a family are those of one.
-pub one_family_in : {m : Mode} (ts : Trees) (x y : FamilyChoice) → AreFamilyFields m ts x → AreFamilyFields m ts y → x.family ≡ y.family
+pub one_family_in : {m : Mode} (ts : Trees) (x y : FamilyChoice) → AreFamilyFields m ts x
+    → AreFamilyFields m ts y → x.family ≡ y.family
 one_family_in {m} ts x y p q =
     let first = (same_trees (sym p.are.whole ∙ q.are.whole)).0 in
-    family_one.one q.are.first x.family y.family (subst (λ (u : Tree). IsFamily m u x.family) first p.are.is) q.are.is
+    family_one.one q.are.first x.family y.family
+    (subst (λ (u : Tree). IsFamily m u x.family) first p.are.is) q.are.is
 
 -- A family and what is said of it, by its parts.
 same_choice : (x y : FamilyChoice) → x.family ≡ y.family → x.choice ≡ y.choice → x ≡ y
-same_choice x y e f = ap (λ (family : AddressFamily). record { family = family; choice = x.choice }) e ∙ ap (λ (choice : Choice). record { family = y.family; choice = choice }) f
+same_choice x y e f = ap (λ (family : AddressFamily). record
+    { family = family; choice = x.choice }) e ∙ ap
+    (λ (choice : Choice). record { family = y.family; choice = choice }) f
 
 -- The fields of a family are read in one way.
 fields_one : {m : Mode} → OneAll (AreFamilyFields m)
@@ -69,10 +76,12 @@ fields_one {m} = record {
 families_one : {m : Mode} → OneAll (AreIpFamilies m)
 families_one {m} = record {
   one = λ ts x y p q.
-      let same : p.families ≡ q.families = (many_one (inside_one fields_one)).one ts p.families q.families p.are q.are in
+      let same : p.families ≡ q.families =
+      (many_one (inside_one fields_one)).one ts p.families q.families p.are q.are in
       p.says ∙ ap choices_of same ∙ sym q.says;
 }
 
 -- A value is IP resources of both families in one way.
-pub one_of_families : (m : Mode) (t : Tree) (one other : FamilyChoices) → IsIpAddrBlocks m t one → IsIpAddrBlocks m t other → one ≡ other
+pub one_of_families : (m : Mode) (t : Tree) (one other : FamilyChoices) → IsIpAddrBlocks m t one
+    → IsIpAddrBlocks m t other → one ≡ other
 one_of_families m = (inside_one families_one).one

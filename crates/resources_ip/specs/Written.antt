@@ -54,29 +54,35 @@ FitsChoice family Inherit = Unit {0}
 FitsChoice family (Blocks runs) = FitsSet family runs
 
 -- The values are one, which is read as the same set, the same choice.
-pub record ReadsList (m : Mode) (family : AddressFamily) (runs : List Run) (ts : Trees) : Type 0 where
+pub record ReadsList (m : Mode) (family : AddressFamily) (runs : List Run) (ts : Trees)
+    : Type 0 where
   pub tree : Tree
   pub alone : ts ≡ more tree none
   pub is : IsBlockList m family tree runs
 
-pub record ReadsChoice (m : Mode) (family : AddressFamily) (choice : Choice) (ts : Trees) : Type 0 where
+pub record ReadsChoice (m : Mode) (family : AddressFamily) (choice : Choice) (ts : Trees)
+    : Type 0 where
   pub tree : Tree
   pub alone : ts ≡ more tree none
   pub is : IsIpChoice m family tree choice
 
 -- What is written spells these values, and is always the same.
-pub list_spelled : (m : Mode) (runs : List Run) (text : List ℕ) → WritesIpList m runs text → SpellsSome m (AreIpList m runs) text
+pub list_spelled : (m : Mode) (runs : List Run) (text : List ℕ) → WritesIpList m runs text
+    → SpellsSome m (AreIpList m runs) text
 list_spelled m runs = wrapped_spelled m (all_spelled m (block_spelled m) runs)
 
-pub list_one : (m : Mode) (runs : List Run) (a b : List ℕ) → WritesIpList m runs a → WritesIpList m runs b → a ≡ b
+pub list_one : (m : Mode) (runs : List Run) (a b : List ℕ) → WritesIpList m runs a
+    → WritesIpList m runs b → a ≡ b
 list_one m runs = wrapped_one m (all_one (block_one m) runs)
 
-pub resources_spelled : (m : Mode) (choice : Choice) (text : List ℕ) → WritesIpResources m choice text → SpellsSome m (AreIpResources m choice) text
+pub resources_spelled : (m : Mode) (choice : Choice) (text : List ℕ)
+    → WritesIpResources m choice text → SpellsSome m (AreIpResources m choice) text
 resources_spelled m Missing = nothing_spelled m
 resources_spelled m Inherit = plain_spelled m
 resources_spelled m (Blocks runs) = list_spelled m runs
 
-pub resources_one : (m : Mode) (choice : Choice) (a b : List ℕ) → WritesIpResources m choice a → WritesIpResources m choice b → a ≡ b
+pub resources_one : (m : Mode) (choice : Choice) (a b : List ℕ) → WritesIpResources m choice a
+    → WritesIpResources m choice b → a ≡ b
 resources_one m Missing = nothing_one
 resources_one m Inherit = plain_one m (one_null tt)
 resources_one m (Blocks runs) = list_one m runs

@@ -37,18 +37,24 @@ TextIf false P = NoText
 
 -- IPAddressFamily: a SEQUENCE of the family's number and of what is said of it (2.2.3.2); nothing where it is missing.
 abbrev pub FamilyTrees : Mode → AddressFamily → Choice → Trees → Type 0
-FamilyTrees m family choice = TreesIf (is_said choice) (IsWrapped sequence_tag (AreBoth (StringTrees m octet_string_tag (family_octets family)) (AreIpResources m choice)))
+FamilyTrees m family choice = TreesIf (is_said choice)
+    (IsWrapped sequence_tag (AreBoth (StringTrees m octet_string_tag (family_octets family))
+    (AreIpResources m choice)))
 
 abbrev pub WritesFamily : Mode → AddressFamily → Choice → List ℕ → Type 0
-WritesFamily m family choice = TextIf (is_said choice) (WritesWrapped m sequence_tag (WritesBoth (WritesString m octet_string_tag (family_octets family)) (WritesIpResources m choice)))
+WritesFamily m family choice = TextIf (is_said choice)
+    (WritesWrapped m sequence_tag (WritesBoth (WritesString m octet_string_tag
+    (family_octets family)) (WritesIpResources m choice)))
 
 -- IPAddrBlocks: a SEQUENCE of these, IPv4 first (2.2.3.1, 2.2.3.3); nothing where both are missing, since a list names
 -- one family at least.
 abbrev pub FamiliesTrees : Mode → FamilyChoices → Trees → Type 0
-FamiliesTrees m x = TreesIf (says_any x) (IsWrapped sequence_tag (AreBoth (FamilyTrees m Ipv4 x.v4) (FamilyTrees m Ipv6 x.v6)))
+FamiliesTrees m x = TreesIf (says_any x) (IsWrapped sequence_tag
+    (AreBoth (FamilyTrees m Ipv4 x.v4) (FamilyTrees m Ipv6 x.v6)))
 
 abbrev pub WritesFamilies : Mode → FamilyChoices → List ℕ → Type 0
-WritesFamilies m x = TextIf (says_any x) (WritesWrapped m sequence_tag (WritesBoth (WritesFamily m Ipv4 x.v4) (WritesFamily m Ipv6 x.v6)))
+WritesFamilies m x = TextIf (says_any x) (WritesWrapped m sequence_tag
+    (WritesBoth (WritesFamily m Ipv4 x.v4) (WritesFamily m Ipv6 x.v6)))
 
 -- Choices of both families.
 abbrev pub both : Choice → Choice → FamilyChoices
@@ -61,22 +67,35 @@ pub record ReadsFamilies (m : Mode) (x : FamilyChoices) (ts : Trees) : Type 0 wh
   pub is : IsIpAddrBlocks m tree x
 
 -- What is written spells these values, and is always the same.
-if_spelled : (m : Mode) (b : Bool) {T : Trees → Type 0} {P : List ℕ → Type 0} → ((text : List ℕ) → P text → SpellsSome m T text) → (text : List ℕ) → TextIf b P text → SpellsSome m (TreesIf b T) text
+if_spelled : (m : Mode) (b : Bool) {T : Trees → Type 0} {P : List ℕ → Type 0}
+    → ((text : List ℕ) → P text → SpellsSome m T text) → (text : List ℕ) → TextIf b P text
+    → SpellsSome m (TreesIf b T) text
 if_spelled m true f = f
 if_spelled m false f = nothing_spelled m
 
-if_one : (b : Bool) {P : List ℕ → Type 0} → ((u v : List ℕ) → P u → P v → u ≡ v) → (u v : List ℕ) → TextIf b P u → TextIf b P v → u ≡ v
+if_one : (b : Bool) {P : List ℕ → Type 0} → ((u v : List ℕ) → P u → P v → u ≡ v) → (u v : List ℕ)
+    → TextIf b P u → TextIf b P v → u ≡ v
 if_one true f = f
 if_one false f = nothing_one
 
-pub family_spelled : (m : Mode) (family : AddressFamily) (choice : Choice) (text : List ℕ) → WritesFamily m family choice text → SpellsSome m (FamilyTrees m family choice) text
-family_spelled m family choice = if_spelled m (is_said choice) (wrapped_spelled m (both_spelled m (string_spelled m octet_string_tag (family_octets family)) (resources_spelled m choice)))
+pub family_spelled : (m : Mode) (family : AddressFamily) (choice : Choice) (text : List ℕ)
+    → WritesFamily m family choice text → SpellsSome m (FamilyTrees m family choice) text
+family_spelled m family choice = if_spelled m (is_said choice)
+    (wrapped_spelled m (both_spelled m (string_spelled m octet_string_tag (family_octets family))
+    (resources_spelled m choice)))
 
-pub family_one : (m : Mode) (family : AddressFamily) (choice : Choice) (a b : List ℕ) → WritesFamily m family choice a → WritesFamily m family choice b → a ≡ b
-family_one m family choice = if_one (is_said choice) (wrapped_one m (both_one (string_one m octet_string_tag (family_octets family)) (resources_one m choice)))
+pub family_one : (m : Mode) (family : AddressFamily) (choice : Choice) (a b : List ℕ)
+    → WritesFamily m family choice a → WritesFamily m family choice b → a ≡ b
+family_one m family choice = if_one (is_said choice)
+    (wrapped_one m (both_one (string_one m octet_string_tag (family_octets family))
+    (resources_one m choice)))
 
-pub families_spelled : (m : Mode) (x : FamilyChoices) (text : List ℕ) → WritesFamilies m x text → SpellsSome m (FamiliesTrees m x) text
-families_spelled m x = if_spelled m (says_any x) (wrapped_spelled m (both_spelled m (family_spelled m Ipv4 x.v4) (family_spelled m Ipv6 x.v6)))
+pub families_spelled : (m : Mode) (x : FamilyChoices) (text : List ℕ) → WritesFamilies m x text
+    → SpellsSome m (FamiliesTrees m x) text
+families_spelled m x = if_spelled m (says_any x)
+    (wrapped_spelled m (both_spelled m (family_spelled m Ipv4 x.v4) (family_spelled m Ipv6 x.v6)))
 
-pub families_one : (m : Mode) (x : FamilyChoices) (a b : List ℕ) → WritesFamilies m x a → WritesFamilies m x b → a ≡ b
-families_one m x = if_one (says_any x) (wrapped_one m (both_one (family_one m Ipv4 x.v4) (family_one m Ipv6 x.v6)))
+pub families_one : (m : Mode) (x : FamilyChoices) (a b : List ℕ) → WritesFamilies m x a
+    → WritesFamilies m x b → a ≡ b
+families_one m x =
+    if_one (says_any x) (wrapped_one m (both_one (family_one m Ipv4 x.v4) (family_one m Ipv6 x.v6)))

@@ -13,8 +13,10 @@ dashed first last = first ++ (codes "-" ++ last)
 
 -- The text of a run: that of the prefix where it is one, else first and last.
 pub record IsBlockText (address_text : ℕ → List ℕ) (r : Run) (text : List ℕ) : Type 0 where
-  pub prefix : (len : ℕ) → len ≤ 128 → first_of len r.first ≡ r.first → prefix_run r.first len ≡ r → text ≡ slashed (address_text r.first) len
-  pub range : ((len : ℕ) → len ≤ 128 → first_of len r.first ≡ r.first → ¬ (prefix_run r.first len ≡ r)) → text ≡ dashed (address_text r.first) (address_text r.last)
+  pub prefix : (len : ℕ) → len ≤ 128 → first_of len r.first ≡ r.first → prefix_run r.first len ≡ r
+      → text ≡ slashed (address_text r.first) len
+  pub range : ((len : ℕ) → len ≤ 128 → first_of len r.first ≡ r.first
+      → ¬ (prefix_run r.first len ≡ r)) → text ≡ dashed (address_text r.first) (address_text r.last)
 
 -- This text as a function of the run. How many addresses there are gives the length of the one prefix that can have them.
 abbrev pub length_of_run : Run → ℕ

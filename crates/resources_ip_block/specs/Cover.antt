@@ -46,7 +46,8 @@ filled r = record { first = first_of 32 r.first; last = last_of 32 r.last }
 pub record IsFirst (r : Run) (p : Prefix) : Type 0 where
   pub start : bits_of (prefix_addr p) ≡ r.first
   pub to : (run_of_prefix p).last ≤ r.last
-  pub longest : (len : ℕ) → len ≤ 128 → first_of len r.first ≡ r.first → r.first + (span_of len - 1) ≤ r.last → prefix_len p ≤ len
+  pub longest : (len : ℕ) → len ≤ 128 → first_of len r.first ≡ r.first
+      → r.first + (span_of len - 1) ≤ r.last → prefix_len p ≤ len
 
 -- What is left of the run after the prefix.
 abbrev pub IsBehind : Run → Prefix → Option AddressRange → Type 0
@@ -56,7 +57,8 @@ IsBehind r p (Some rest) = let left : Run = record { first = (run_of_prefix p).l
 -- One call of `next`.
 abbrev pub GivesFrom : Option AddressRange → Option Prefix → Option AddressRange → Type 0
 GivesFrom None given behind = (given ≡ None) × (behind ≡ None)
-GivesFrom (Some range) given behind = IsSomeAnd given (λ p. IsFirst (run_of_range range) p × IsBehind (run_of_range range) p behind)
+GivesFrom (Some range) given behind =
+    IsSomeAnd given (λ p. IsFirst (run_of_range range) p × IsBehind (run_of_range range) p behind)
 
 abbrev pub gives : RangePrefixes → Option Prefix → RangePrefixes → Type 0
 gives s given t = GivesFrom s.left given t.left

@@ -16,10 +16,14 @@ ends_one family = then_one (address_one family) (then_one (address_one family) e
 
 -- Two addresses of which the first isn't above the second are those of one range.
 ordered_one : {m : Mode} (family : AddressFamily) → OneAll (AreOrdered m family)
-ordered_one family = record { one = λ ts x y p q. p.from_min_to_max ∙ ap from_to ((ends_one family).one ts p.ends q.ends p.are q.are) ∙ sym q.from_min_to_max }
+ordered_one family = record {
+  one = λ ts x y p q. p.from_min_to_max ∙ ap from_to
+      ((ends_one family).one ts p.ends q.ends p.are q.are) ∙ sym q.from_min_to_max;
+}
 
 -- A prefix has the tag of a BIT STRING.
-pub prefix_tagged : {m : Mode} (family : AddressFamily) → Tagged (universal 3) (As (IsAddress m family) beginning)
+pub prefix_tagged : {m : Mode} (family : AddressFamily)
+    → Tagged (universal 3) (As (IsAddress m family) beginning)
 prefix_tagged family = as_tagged (as_tagged (such_tagged (octets_tagged _ _)))
 
 -- A range has the tag of a SEQUENCE.
@@ -28,4 +32,6 @@ range_tagged = inside_tagged _ _
 
 -- A value is one block.
 pub block_one : {m : Mode} (family : AddressFamily) → One (IsBlock m family)
-block_one family = one_of_one (prefix_tagged family) range_tagged (universal_apart (λ e. omega arith)) (as_one (address_one family)) (inside_one (ordered_one family))
+block_one family = one_of_one (prefix_tagged family) range_tagged
+    (universal_apart (λ e. omega arith)) (as_one (address_one family))
+    (inside_one (ordered_one family))

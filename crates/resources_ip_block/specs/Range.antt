@@ -9,5 +9,6 @@ use Rattle.resources_ip_prefix.specs.Address.{bits_of, bits_within}
 abbrev pub run_of_range : AddressRange → Run
 run_of_range r = record { first = bits_of r.first; last = bits_of r.last }
 
-pub range_within : (r : AddressRange) → ((run_of_range r).first ≤ (run_of_range r).last) × ((run_of_range r).last ≤ last_address)
+pub range_within : (r : AddressRange) → ((run_of_range r).first ≤ (run_of_range r).last)
+    × ((run_of_range r).last ≤ last_address)
 range_within r = (r.ordered, bits_within r.last)

@@ -31,7 +31,8 @@ IsNoRange family text Cause.MissingSeparator = LacksByte 45 text
 IsNoRange family text Cause.Addr =
     (min max : List ℕ) × IsCut 45 text min max × (IsNoAddr family min ⊎ IsNoAddr family max)
 IsNoRange family text Cause.BadRange =
-    (min max : List ℕ) × (first end : ℕ) × IsCut 45 text min max × IsAddrText family min first × IsAddrText family max end
+    (min max : List ℕ) × (first end : ℕ) × IsCut 45 text min max × IsAddrText family min first
+    × IsAddrText family max end
     × (last_of (max_len_of family) end < first)
 IsNoRange family text Cause.PrefixLen = ⊥
 IsNoRange family text Cause.FamilyMismatch = ⊥
@@ -51,7 +52,9 @@ WritesBlock family text r =
     ⊎ (LacksByte 47 text × WritesRange family text r)
 
 abbrev pub IsNoBlock : AddressFamily → List ℕ → FromStrError → Type 0
-IsNoBlock family text e = (¬ (LacksByte 47 text) × IsNoPrefix family text e) ⊎ (LacksByte 47 text × IsNoRange family text e)
+IsNoBlock family text e =
+    (¬ (LacksByte 47 text) × IsNoPrefix family text e)
+    ⊎ (LacksByte 47 text × IsNoRange family text e)
 
 abbrev pub ReadsBlock : AddressFamily → List ℕ → Result IpBlock FromStrError → Type 0
 ReadsBlock family text r =
@@ -62,18 +65,22 @@ ReadsBlock family text r =
 
 -- The family of both ends of a range.
 abbrev pub ShowsBoth : AddressFamily → List ℕ → Type 0
-ShowsBoth family text = (min max : List ℕ) × IsCut 45 text min max × Shows family min × Shows family max
+ShowsBoth family text =
+    (min max : List ℕ) × IsCut 45 text min max × Shows family min × Shows family max
 
 -- The two ends have different families.
 abbrev pub ShowsTwo : List ℕ → Type 0
 ShowsTwo text =
-    (min max : List ℕ) × IsCut 45 text min max × ((Shows Ipv4 min × Shows Ipv6 max) ⊎ (Shows Ipv6 min × Shows Ipv4 max))
+    (min max : List ℕ) × IsCut 45 text min max
+    × ((Shows Ipv4 min × Shows Ipv6 max) ⊎ (Shows Ipv6 min × Shows Ipv4 max))
 
 abbrev pub IsNoRangeOfAny : List ℕ → FromStrError → Type 0
 IsNoRangeOfAny text Cause.FamilyMismatch = ShowsTwo text
 IsNoRangeOfAny text Cause.MissingSeparator = LacksByte 45 text
-IsNoRangeOfAny text Cause.Addr = (family : AddressFamily) × ShowsBoth family text × IsNoRange family text Cause.Addr
-IsNoRangeOfAny text Cause.BadRange = (family : AddressFamily) × ShowsBoth family text × IsNoRange family text Cause.BadRange
+IsNoRangeOfAny text Cause.Addr =
+    (family : AddressFamily) × ShowsBoth family text × IsNoRange family text Cause.Addr
+IsNoRangeOfAny text Cause.BadRange =
+    (family : AddressFamily) × ShowsBoth family text × IsNoRange family text Cause.BadRange
 IsNoRangeOfAny text Cause.PrefixLen = ⊥
 IsNoRangeOfAny text Cause.BadBlocks = ⊥
 IsNoRangeOfAny text Cause.Memory = ⊥
@@ -81,14 +88,17 @@ IsNoRangeOfAny text Cause.Memory = ⊥
 abbrev pub ReadsRangeOfAny : List ℕ → Result AddressRange FromStrError → Type 0
 ReadsRangeOfAny text r =
     MatchResult r (λ a. (family : AddressFamily) × WritesRange family text (run_of_range a))
-    (λ e. IsNoRangeOfAny text e × ((family : AddressFamily) (run : Run) → ¬ (WritesRange family text run)))
+    (λ e. IsNoRangeOfAny text e × ((family : AddressFamily) (run : Run)
+    → ¬ (WritesRange family text run)))
 
 abbrev pub IsNoBlockOfAny : List ℕ → FromStrError → Type 0
 IsNoBlockOfAny text e =
-    (¬ (LacksByte 47 text) × ((family : AddressFamily) × Shows family text × IsNoPrefix family text e))
+    (¬ (LacksByte 47 text) × ((family : AddressFamily) × Shows family text
+    × IsNoPrefix family text e))
     ⊎ (LacksByte 47 text × IsNoRangeOfAny text e)
 
 abbrev pub ReadsBlockOfAny : List ℕ → Result IpBlock FromStrError → Type 0
 ReadsBlockOfAny text r =
     MatchResult r (λ b. (family : AddressFamily) × WritesBlock family text (run_of_block b))
-    (λ e. IsNoBlockOfAny text e × ((family : AddressFamily) (run : Run) → ¬ (WritesBlock family text run)))
+    (λ e. IsNoBlockOfAny text e × ((family : AddressFamily) (run : Run)
+    → ¬ (WritesBlock family text run)))

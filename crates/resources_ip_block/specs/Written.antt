@@ -45,7 +45,9 @@ pub record EncodesRange (run : Run) (x : RangeValue) : Type 0 where
 -- A run as a prefix where it is one, and else as a range (2.2.3.7).
 abbrev pub EncodesBlock : Run → Choice2 (Primitive Prefix) RangeValue → Type 0
 EncodesBlock run (One x) = (x.tag ≡ bit_string_tag) × (run_of_prefix x.content ≡ run)
-EncodesBlock run (Two x) = EncodesRange run x × ((addr len : ℕ) → len ≤ 128 → first_of len addr ≡ addr → ¬ (prefix_run addr len ≡ run))
+EncodesBlock run (Two x) =
+    EncodesRange run x
+    × ((addr len : ℕ) → len ≤ 128 → first_of len addr ≡ addr → ¬ (prefix_run addr len ≡ run))
 
 -- The trees that are written (X.690 8.6, 8.9): one value of a prefix, of a range, of a block.
 abbrev pub PrefixTrees : Mode → Primitive Prefix → Trees → Type 0

@@ -7,9 +7,6 @@ use Rattle.std.specs.declared.net.ip_addr.IpAddr.{IpAddr}
 use Rattle.std.specs.declared.net.ip_addr.IpAddr.TheVariants.{V4, V6}
 use Rattle.std.specs.declared.net.ipv4_addr.Ipv4Addr.{Ipv4Addr}
 use Rattle.std.specs.declared.net.ipv6_addr.Ipv6Addr.{Ipv6Addr}
-use Rattle.resources_ip_prefix.specs.declared.ip_addr.error.PrefixError.{PrefixError}
-use Rattle.resources_ip_prefix.specs.declared.ip_addr.error.PrefixError.TheVariants.{LenOverflow, NonZeroHost}
-use Rattle.resources_ip_prefix.specs.Refusals.{IsTooLong}
 use Rattle.resources_ip_prefix.proofs.Numbers.{ipv4_is, ipv6_is}
 use Rattle.resources_chain.specs.Sets.{InRun}
 use Rattle.resources_ip_prefix.specs.AddrPrefixes.{Family, Ipv4, Ipv6, PrefixValue, IsPrefix, width, span, Has, family_of, bits_of as addr_bits, prefix_around}
@@ -42,14 +39,6 @@ pub v4_whole : (p : PrefixValue) → IsPrefix p → p.family ≡ Ipv4 → IsWhol
 v4_whole p h e =
     let fits : p.len ≤ 32 = subst (λ (f : Family). p.len ≤ width f) e h.fits in
     subst (λ (f : Family). IsWhole (prefix_run (widened f p.first) p.len)) (sym e) (whole_is p.first p.len (2 ^ (32 - p.len)) (span_of p.len) (pow_pos (32 - p.len)) (wide_span p.len fits))
-
-short_in : (f : Family) (len : ℕ) → len ≤ width f → len ≤ 128
-short_in Ipv4 len h = omega arith
-short_in Ipv6 len h = h
-
--- A prefix that knows its family has at most 128 bits, and the bits after its length are zeros in 128 too.
-pub len_short : (p : PrefixValue) → IsPrefix p → p.len ≤ 128
-len_short p h = short_in p.family p.len h.fits
 
 clear_in : (f : Family) (first len : ℕ) → len ≤ width f → first % span f len ≡ 0 → first_of len (widened f first) ≡ widened f first
 clear_in Ipv4 first len h zeros =
@@ -104,11 +93,6 @@ v6_of a p addr len is within clear made =
       first_is = clear;
       len_is = refl;
     })
-
--- A length that is refused is too long.
-pub refused_long : (f : Family) (len : ℕ) (e : PrefixError) → IsTooLong f len e → width f < len
-refused_long f len LenOverflow h = h
-refused_long f len NonZeroHost h = absurd h
 
 pub v4_from : (a : Ipv4Addr) (p : PrefixValue) (told addr l len : ℕ) → IsIpv4OfBits a (told / 2 ^ 96) → told ≡ addr → l ≡ len → addr < 2 ^ 128 → first_of len addr ≡ addr → IsPrefix p × (p ≡ prefix_around Ipv4 (ipv4_bits a) l) → IsOfFamily Ipv4 addr len p
 v4_from a p told addr l len is e same within clear made =

@@ -65,4 +65,5 @@ family_cmp Ipv6 Ipv6 = Equal
 
 -- By family, IPv4 first, then by the last address, then the longer prefix first.
 abbrev pub prefix_cmp : PrefixValue → PrefixValue → Ordering
-prefix_cmp p q = ordering_then (family_cmp p.family q.family) (ordering_then (nat_cmp (last_of p) (last_of q)) (nat_cmp q.len p.len))
+prefix_cmp p q = ordering_then (family_cmp p.family q.family)
+    (ordering_then (nat_cmp (last_of p) (last_of q)) (nat_cmp q.len p.len))

@@ -13,4 +13,5 @@ bits_within a = a.in_range
 
 -- Addresses of the same bits are one.
 pub one_addr : (a b : Addr) → bits_of a ≡ bits_of b → a ≡ b
-one_addr a b e = made_alike {A = Addr} (λ v h. record { bits = v; in_range = h }) a.bits b.bits a.in_range b.in_range e
+one_addr a b e = made_alike {A = Addr} (λ v h. record
+    { bits = v; in_range = h }) a.bits b.bits a.in_range b.in_range e

@@ -6,7 +6,7 @@ use Rattle.resources_ip_prefix.specs.bcder_tree.Strings.{IsString, octet_string_
 use Rattle.resources_ip_prefix.specs.bcder_tree.Tree.{Tree}
 use Rattle.resources_ip_prefix.specs.bcder_octets.Bits.{BitsValue, IsBits, bits}
 use Rattle.resources_ip_prefix.specs.bcder_octets.BitContents.{IsBitString, IsPadded, bit_string_tag}
-use Rattle.resources_ip_prefix.specs.bcder_content.Grammar.{As, OctetsOf, Such}
+use Rattle.resources_ip_prefix.specs.bcder_content.Grammar.{As, OctetsOf, Where}
 use Rattle.resources_ip_prefix.specs.declared.addr.AddressFamily.{AddressFamily}
 use Rattle.resources_ip_prefix.specs.declared.addr.AddressFamily.TheVariants.{Ipv4, Ipv6}
 use Rattle.resources_ip_prefix.specs.declared.prefix.Prefix.{Prefix}
@@ -49,7 +49,7 @@ FitsFamily family v = length (bits v) ≤ max_len_of family
 
 -- IPAddress ::= BIT STRING (2.2.3.8), with that tag.
 abbrev pub IsAddressIn : AddressFamily → Mode → TagValue → Tree → FirstBits → Type 0
-IsAddressIn family m tag = As (Such (OctetsOf tag (IsBitString m)) (FitsFamily family)) told_by
+IsAddressIn family m tag = As (Where (OctetsOf tag (IsBitString m)) (FitsFamily family)) told_by
 
 abbrev pub IsAddress : Mode → AddressFamily → Tree → FirstBits → Type 0
 IsAddress m family = IsAddressIn family m bit_string_tag
@@ -60,7 +60,8 @@ pub record AreUnused (m : Mode) (unused : ℕ) (octets : List ℕ) : Type 0 wher
   pub padded : IsPadded m (record { unused = unused; octets = octets })
 
 -- The content octets of such a BIT STRING, by the address that they state.
-pub record AreAddressOctets (family : AddressFamily) (m : Mode) (content : List ℕ) (b : FirstBits) : Type 0 where
+pub record AreAddressOctets (family : AddressFamily) (m : Mode) (content : List ℕ) (b : FirstBits)
+    : Type 0 where
   pub value : BitsValue
   pub is : IsBitString m content value
   pub fits : FitsFamily family value

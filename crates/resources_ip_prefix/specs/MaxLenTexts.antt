@@ -21,7 +21,8 @@ pub record IsMaxLenText (text : List ℕ) (m : MaxLenValue) : Type 0 where
 
 -- What is wrong with the text of a prefix.
 abbrev pub IsNoPrefixText : List ℕ → ParsePrefixError → Type 0
-IsNoPrefixText text e = IsUnreadable IsNoPrefix text e × ((p : PrefixValue) → ¬ (IsPrefixText text p))
+IsNoPrefixText text e =
+    IsUnreadable IsNoPrefix text e × ((p : PrefixValue) → ¬ (IsPrefixText text p))
 
 -- What is wrong with a text.
 abbrev pub IsUnreadableMaxLen : List ℕ → ParseMaxLenPrefixError → Type 0
@@ -37,7 +38,8 @@ IsUnreadableMaxLen text (InvalidMaxLenValue e) =
 -- The answer is what the text writes; or it writes nothing, for the reason given.
 abbrev pub ReadsMaxLen : List ℕ → Result MaxLenValue ParseMaxLenPrefixError → Type 0
 ReadsMaxLen text r =
-    MatchResult r (IsMaxLenText text) (λ e. IsUnreadableMaxLen text e × ((m : MaxLenValue) → ¬ (IsMaxLenText text m)))
+    MatchResult r (IsMaxLenText text) (λ e. IsUnreadableMaxLen text e
+    × ((m : MaxLenValue) → ¬ (IsMaxLenText text m)))
 
 -- What is printed.
 abbrev pub suffix_text : Option ℕ → List ℕ

@@ -26,8 +26,10 @@ resolved m = unwrap_or m.max_len m.prefix.len
 
 -- The nearest to what is given that is at least the prefix's length and at most that of an address.
 abbrev pub saturated : PrefixValue → Option ℕ → MaxLenValue
-saturated p o = record { prefix = p; max_len = option_map (λ n. max p.len (min n (width p.family))) o }
+saturated p o =
+    record { prefix = p; max_len = option_map (λ n. max p.len (min n (width p.family))) o }
 
 -- By prefix, and then by greatest length, none first.
 abbrev pub max_len_cmp : MaxLenValue → MaxLenValue → Ordering
-max_len_cmp m n = ordering_then (prefix_cmp m.prefix n.prefix) (option_cmp nat_cmp m.max_len n.max_len)
+max_len_cmp m n =
+    ordering_then (prefix_cmp m.prefix n.prefix) (option_cmp nat_cmp m.max_len n.max_len)

@@ -19,7 +19,10 @@ same_family Ipv6 Ipv4 e = absurd cc
 
 -- A value is of one family.
 pub family_one : {m : Mode} → One (IsFamily m)
-family_one {m} = record { one = λ t f g p q. same_family f g (one_string m octet_string_tag t (family_octets f) (family_octets g) p.is q.is) }
+family_one {m} = record {
+  one = λ t f g p q. same_family f g
+      (one_string m octet_string_tag t (family_octets f) (family_octets g) p.is q.is);
+}
 
 -- A value states one address of a family.
 pub address_one : {m : Mode} (family : AddressFamily) → One (IsAddress m family)

@@ -19,7 +19,8 @@ family_turned Ipv4 Ipv6 = refl
 family_turned Ipv6 Ipv4 = refl
 family_turned Ipv6 Ipv6 = refl
 
-family_chain : (f g h : Family) → family_cmp f g ≡ Less → family_cmp g h ≡ Less → family_cmp f h ≡ Less
+family_chain : (f g h : Family) → family_cmp f g ≡ Less → family_cmp g h ≡ Less
+    → family_cmp f h ≡ Less
 family_chain Ipv4 Ipv4 h e d = absurd cc
 family_chain Ipv4 Ipv6 Ipv4 e d = absurd cc
 family_chain Ipv4 Ipv6 Ipv6 e d = refl
@@ -50,7 +51,8 @@ prefix_total =
 abbrev pub prefix_eq : PrefixValue → PrefixValue → Bool
 prefix_eq p q = is_eq (family_cmp p.family q.family) && (p.first == q.first) && (p.len == q.len)
 
-pub prefix_is : {p q : PrefixValue} → p.family ≡ q.family → p.first ≡ q.first → p.len ≡ q.len → p ≡ q
+pub prefix_is : {p q : PrefixValue} → p.family ≡ q.family → p.first ≡ q.first → p.len ≡ q.len
+    → p ≡ q
 prefix_is f n l = λ i. record { family = f i; first = n i; len = l i }
 
 all_three : (a b c : Bool) → a && b && c ≡ true → (a ≡ true) × (b ≡ true) × (c ≡ true)
@@ -69,9 +71,14 @@ pub prefix_eq_tells : (p q : PrefixValue) → Decides (prefix_eq p q) (p ≡ q)
 prefix_eq_tells p q = (
   λ t.
       let parts = all_three _ _ _ t in
-      prefix_is (family_same p.family q.family ((Equal-is (family_cmp p.family q.family)).0 parts.0)) (eqb-true p.first q.first parts.1) (eqb-true p.len q.len parts.2),
+      prefix_is (family_same p.family q.family
+      ((Equal-is (family_cmp p.family q.family)).0 parts.0)) (eqb-true p.first q.first parts.1)
+      (eqb-true p.len q.len parts.2),
   λ e.
-      no_more _ _ _ (ap is_eq (ap (family_cmp p.family) (sym (ap (λ (r : PrefixValue). r.family) e)) ∙ tied_itself family_total p.family)) (eq-eqb p.first q.first (ap (λ (r : PrefixValue). r.first) e)) (eq-eqb p.len q.len (ap (λ (r : PrefixValue). r.len) e)),
+      no_more _ _ _ (ap is_eq (ap (family_cmp p.family)
+      (sym (ap (λ (r : PrefixValue). r.family) e)) ∙ tied_itself family_total p.family))
+      (eq-eqb p.first q.first (ap (λ (r : PrefixValue). r.first) e))
+      (eq-eqb p.len q.len (ap (λ (r : PrefixValue). r.len) e)),
 )
 
 pub prefix_equiv : IsEquivalence prefix_eq
@@ -85,7 +92,8 @@ both_equal Greater s e = absurd cc
 pub nat_same : (x y : ℕ) → nat_cmp x y ≡ Equal → x ≡ y
 nat_same x y e = eqb-true x y (sym (unsigned_tied x y) ∙ ap is_eq e)
 
-first_same : (p q : PrefixValue) → p.family ≡ q.family → p.len ≡ q.len → last_of p ≡ last_of q → p.first ≡ q.first
+first_same : (p q : PrefixValue) → p.family ≡ q.family → p.len ≡ q.len → last_of p ≡ last_of q
+    → p.first ≡ q.first
 first_same p q f l e =
     let s : span p.family p.len ≡ span q.family q.len = λ i. span (f i) (l i) in
     omega arith
@@ -103,12 +111,16 @@ pub prefix_ties : (p q : PrefixValue) → prefix_eq p q ≡ eq_by_cmp prefix_cmp
 prefix_ties p q =
     one_answer (prefix_eq p q) (eq_by_cmp prefix_cmp p q) (prefix_eq_tells p q) (
       λ t. prefix_same p q ((Equal-is (prefix_cmp p q)).0 t),
-      λ e. ap is_eq (subst (λ (r : PrefixValue). prefix_cmp p r ≡ Equal) e (tied_itself prefix_total p)),
+      λ e. ap is_eq (subst (λ (r : PrefixValue). prefix_cmp p r ≡ Equal) e
+          (tied_itself prefix_total p)),
     )
 
 -- The order ties just equal prefixes.
 pub prefix_tied : (p q : PrefixValue) → (prefix_cmp p q ≡ Equal) ↔ (p ≡ q)
-prefix_tied p q = (prefix_same p q, λ e. subst (λ (r : PrefixValue). prefix_cmp p r ≡ Equal) e (tied_itself prefix_total p))
+prefix_tied p q = (
+  prefix_same p q,
+  λ e. subst (λ (r : PrefixValue). prefix_cmp p r ≡ Equal) e (tied_itself prefix_total p),
+)
 
 -- What a hasher is fed.
 abbrev pub family_fed : Family → List (List ℕ)
@@ -123,7 +135,8 @@ prefix_alike p q t = ap prefix_fed ((prefix_eq_tells p q).0 t)
 
 pub max_len_total : IsTotalOrder max_len_cmp
 max_len_total =
-    then_total (on_total (λ m. m.prefix) prefix_total) (on_total (λ m. m.max_len) (options_total nat_cmp_total))
+    then_total (on_total (λ m. m.prefix) prefix_total)
+    (on_total (λ m. m.max_len) (options_total nat_cmp_total))
 
 -- Both parts are equal.
 abbrev pub max_len_eq : MaxLenValue → MaxLenValue → Bool
@@ -157,9 +170,12 @@ pub max_len_eq_tells : (m n : MaxLenValue) → Decides (max_len_eq m n) (m ≡ n
 max_len_eq_tells m n = (
   λ t.
       let parts = both_true (prefix_eq m.prefix n.prefix) (option_eq ◌==◌ m.max_len n.max_len) t in
-      max_len_is ((prefix_eq_tells m.prefix n.prefix).0 parts.0) ((option_tells m.max_len n.max_len).0 parts.1),
+      max_len_is ((prefix_eq_tells m.prefix n.prefix).0 parts.0)
+      ((option_tells m.max_len n.max_len).0 parts.1),
   λ e.
-      both_are (prefix_eq m.prefix n.prefix) (option_eq ◌==◌ m.max_len n.max_len) ((prefix_eq_tells m.prefix n.prefix).1 (ap (λ (r : MaxLenValue). r.prefix) e)) ((option_tells m.max_len n.max_len).1 (ap (λ (r : MaxLenValue). r.max_len) e)),
+      both_are (prefix_eq m.prefix n.prefix) (option_eq ◌==◌ m.max_len n.max_len)
+      ((prefix_eq_tells m.prefix n.prefix).1 (ap (λ (r : MaxLenValue). r.prefix) e))
+      ((option_tells m.max_len n.max_len).1 (ap (λ (r : MaxLenValue). r.max_len) e)),
 )
 
 pub max_len_equiv : IsEquivalence max_len_eq
@@ -167,19 +183,24 @@ max_len_equiv = decided max_len_eq max_len_eq_tells
 
 max_len_same : (m n : MaxLenValue) → max_len_cmp m n ≡ Equal → m ≡ n
 max_len_same m n e =
-    let parts = both_equal (prefix_cmp m.prefix n.prefix) (option_cmp nat_cmp m.max_len n.max_len) e in
+    let parts =
+    both_equal (prefix_cmp m.prefix n.prefix) (option_cmp nat_cmp m.max_len n.max_len) e in
     max_len_is (prefix_same m.prefix n.prefix parts.0) (option_same m.max_len n.max_len parts.1)
 
 -- The order ties just equal values.
 pub max_len_tied : (m n : MaxLenValue) → (max_len_cmp m n ≡ Equal) ↔ (m ≡ n)
-max_len_tied m n = (max_len_same m n, λ e. subst (λ (o : MaxLenValue). max_len_cmp m o ≡ Equal) e (tied_itself max_len_total m))
+max_len_tied m n = (
+  max_len_same m n,
+  λ e. subst (λ (o : MaxLenValue). max_len_cmp m o ≡ Equal) e (tied_itself max_len_total m),
+)
 
 -- Equal values are those that the order doesn't tell apart.
 pub max_len_ties : (m n : MaxLenValue) → max_len_eq m n ≡ eq_by_cmp max_len_cmp m n
 max_len_ties m n =
     one_answer (max_len_eq m n) (eq_by_cmp max_len_cmp m n) (max_len_eq_tells m n) (
       λ t. max_len_same m n ((Equal-is (max_len_cmp m n)).0 t),
-      λ e. ap is_eq (subst (λ (r : MaxLenValue). max_len_cmp m r ≡ Equal) e (tied_itself max_len_total m)),
+      λ e. ap is_eq (subst (λ (r : MaxLenValue). max_len_cmp m r ≡ Equal) e
+          (tied_itself max_len_total m)),
     )
 
 -- What a hasher is fed.

@@ -19,5 +19,6 @@ run_of_prefix p = prefix_run (bits_of p.start) p.len
 pub len_within : (p : Prefix) → prefix_len p ≤ 128
 len_within p = p.short
 
-pub host_clear : (p : Prefix) → first_of (prefix_len p) (bits_of (prefix_addr p)) ≡ bits_of (prefix_addr p)
+pub host_clear : (p : Prefix)
+    → first_of (prefix_len p) (bits_of (prefix_addr p)) ≡ bits_of (prefix_addr p)
 host_clear p = p.clear

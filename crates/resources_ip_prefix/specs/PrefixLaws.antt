@@ -19,7 +19,8 @@ apart q m k h =
     ]
 
 -- The last address of a prefix is one.
-pub ends_within : (addr len : ℕ) → len ≤ 128 → first_of len addr ≡ addr → addr < 2 ^ 128 → addr + (span_of len - 1) < 2 ^ 128
+pub ends_within : (addr len : ℕ) → len ≤ 128 → first_of len addr ≡ addr → addr < 2 ^ 128
+    → addr + (span_of len - 1) < 2 ^ 128
 ends_within addr len h clear within =
     let m : ℕ = 128 - len in
     let whole : len + m ≡ 128 = omega arith in
@@ -27,5 +28,13 @@ ends_within addr len h clear within =
     let below : addr / 2 ^ m * 2 ^ m < 2 ^ len * 2 ^ m = omega (arith, parts, clear, within) in
     omega (arith, apart (addr / 2 ^ m) (2 ^ len) (2 ^ m) below, parts, clear, pow_pos m)
 
-pub prefix_within : (p : Prefix) → ((run_of_prefix p).first ≤ (run_of_prefix p).last) × ((run_of_prefix p).last ≤ last_address)
-prefix_within p = (omega arith, omega (arith, ends_within (bits_of (prefix_addr p)) (prefix_len p) (len_within p) (host_clear p) (omega (arith, bits_within (prefix_addr p)))))
+pub prefix_within : (p : Prefix) → ((run_of_prefix p).first ≤ (run_of_prefix p).last)
+    × ((run_of_prefix p).last ≤ last_address)
+prefix_within p = (
+  omega arith,
+  omega (
+    arith,
+    ends_within (bits_of (prefix_addr p)) (prefix_len p)
+        (len_within p) (host_clear p) (omega (arith, bits_within (prefix_addr p))),
+  ),
+)

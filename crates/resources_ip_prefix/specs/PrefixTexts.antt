@@ -35,11 +35,13 @@ pub record IsRelaxedText (text : List ℕ) (p : PrefixValue) : Type 0 where
   pub value : p ≡ prefix_around p.family bits p.len
 
 -- What is wrong with a text; where it writes an address and a length, `NoPrefix` says what is wrong with these.
-abbrev pub IsUnreadable : (Family → ℕ → ℕ → PrefixError → Type 0) → List ℕ → ParsePrefixError → Type 0
+abbrev pub IsUnreadable : (Family → ℕ → ℕ → PrefixError → Type 0) → List ℕ → ParsePrefixError
+    → Type 0
 IsUnreadable NoPrefix text Empty = text ≡ []
 IsUnreadable NoPrefix text MissingLen = (0 < length text) × LacksByte 47 text
 IsUnreadable NoPrefix text (InvalidAddr _) =
-    (address digits : List ℕ) × IsCut 47 text address digits × ((a : IpAddr) → ¬ (IsIpText address a))
+    (address digits : List ℕ) × IsCut 47 text address digits
+    × ((a : IpAddr) → ¬ (IsIpText address a))
 IsUnreadable NoPrefix text (InvalidLen _) =
     (address digits : List ℕ) × (a : IpAddr) × IsCut 47 text address digits × IsIpText address a
     × ((n : ℕ) → ¬ (IsLenText digits n))
@@ -47,9 +49,11 @@ IsUnreadable NoPrefix text (InvalidPrefix e) =
     (f : Family) × (bits len : ℕ) × IsWritten text f bits len × NoPrefix f bits len e
 
 -- The answer is what the text writes; or it writes nothing, for the reason given.
-abbrev pub Reads : (List ℕ → PrefixValue → Type 0) → (Family → ℕ → ℕ → PrefixError → Type 0) → List ℕ → Result PrefixValue ParsePrefixError → Type 0
+abbrev pub Reads : (List ℕ → PrefixValue → Type 0) → (Family → ℕ → ℕ → PrefixError → Type 0)
+    → List ℕ → Result PrefixValue ParsePrefixError → Type 0
 Reads Writes NoPrefix text r =
-    MatchResult r (Writes text) (λ e. IsUnreadable NoPrefix text e × ((p : PrefixValue) → ¬ (Writes text p)))
+    MatchResult r (Writes text) (λ e. IsUnreadable NoPrefix text e
+    × ((p : PrefixValue) → ¬ (Writes text p)))
 
 -- An address as it is printed (RFC 5952 for IPv6).
 abbrev pub address_text : Family → ℕ → List ℕ

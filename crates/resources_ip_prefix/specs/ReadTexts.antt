@@ -40,9 +40,11 @@ pub record WritesPrefix (family : AddressFamily) (text : List ℕ) (first len : 
 -- What is wrong with a text: there is no slash, what stands before it is no address, or what stands after it no length.
 abbrev pub IsNoPrefix : AddressFamily → List ℕ → FromStrError → Type 0
 IsNoPrefix family text Cause.MissingSeparator = LacksByte 47 text
-IsNoPrefix family text Cause.Addr = (address digits : List ℕ) × IsCut 47 text address digits × IsNoAddr family address
+IsNoPrefix family text Cause.Addr =
+    (address digits : List ℕ) × IsCut 47 text address digits × IsNoAddr family address
 IsNoPrefix family text Cause.PrefixLen =
-    (address digits : List ℕ) × (bits : ℕ) × IsCut 47 text address digits × IsAddrText family address bits
+    (address digits : List ℕ) × (bits : ℕ) × IsCut 47 text address digits
+    × IsAddrText family address bits
     × ((len : ℕ) → ¬ (IsLengthText family digits len))
 IsNoPrefix family text Cause.FamilyMismatch = ⊥
 IsNoPrefix family text Cause.BadBlocks = ⊥

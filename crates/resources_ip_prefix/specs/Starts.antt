@@ -10,7 +10,8 @@ use Rattle.resources_ip_prefix.specs.Orders.{family_total, family_same, both_equ
 
 -- By family, IPv4 first, then by the first address, then the shorter prefix first.
 abbrev pub start_cmp : PrefixValue → PrefixValue → Ordering
-start_cmp p q = ordering_then (family_cmp p.family q.family) (ordering_then (nat_cmp p.first q.first) (nat_cmp p.len q.len))
+start_cmp p q = ordering_then (family_cmp p.family q.family)
+    (ordering_then (nat_cmp p.first q.first) (nat_cmp p.len q.len))
 
 pub start_total : IsTotalOrder start_cmp
 start_total =
@@ -23,6 +24,7 @@ start_same p q = (
   λ e.
       let one = both_equal (family_cmp p.family q.family) (ordering_then (nat_cmp p.first q.first) (nat_cmp p.len q.len)) e in
       let two = both_equal (nat_cmp p.first q.first) (nat_cmp p.len q.len) one.1 in
-      prefix_is (family_same p.family q.family one.0) (nat_same p.first q.first two.0) (nat_same p.len q.len two.1),
+      prefix_is (family_same p.family q.family one.0) (nat_same p.first q.first two.0)
+      (nat_same p.len q.len two.1),
   λ e. subst (λ (r : PrefixValue). start_cmp p r ≡ Equal) e (tied_itself start_total p),
 )

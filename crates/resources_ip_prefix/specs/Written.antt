@@ -12,4 +12,7 @@ octet_count len = (len + 7) / 8
 
 -- The bits of a prefix, as many as its length (2.2.3.8).
 abbrev pub spelled_bits : Prefix → BitsValue
-spelled_bits p = record { unused = 8 * octet_count (prefix_len p) - prefix_len p; octets = take (octet_count (prefix_len p)) (to_be_bytes w128 (bits_of (prefix_addr p))) }
+spelled_bits p = record {
+  unused = 8 * octet_count (prefix_len p) - prefix_len p;
+  octets = take (octet_count (prefix_len p)) (to_be_bytes w128 (bits_of (prefix_addr p)));
+}

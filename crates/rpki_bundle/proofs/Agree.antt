@@ -7,7 +7,7 @@ use Rattle.rpki_bundle.specs.bcder_tree.Tree.{Tree, Trees, primitive, constructe
 use Rattle.rpki_bundle.specs.bcder_tree.Strings.{IsString}
 use Rattle.rpki_bundle.proofs.of_bcder_tree.Fronts.{length_bound}
 use Rattle.rpki_bundle.specs.bcder_primitive.Values.{AnyOctets}
-use Rattle.rpki_bundle.specs.bcder_content.Grammar.{Inside, OctetsOf, Such, As, End, Then, ManyCases, Many}
+use Rattle.rpki_bundle.specs.bcder_content.Grammar.{Inside, OctetsOf, Where, As, End, Then, ManyCases, Many}
 use Rattle.rpki_bundle.specs.bcder_content.Words.{ThenBy}
 use Rattle.rpki_bundle.specs.bcder_content.Texts.{SpellsOf, InOrder}
 use Rattle.rpki_bundle.specs.bcder_primitive.Encoded.{WritesPlain, WritesWrapped, WritesBoth}
@@ -23,25 +23,7 @@ pub record AgreeAll {A : Type 0} (P : Trees → A → Type 0) (x : A) (W : List 
   pub to : (text : List ℕ) → InOrder Der P text x → W text × law
   pub back : (text : List ℕ) → W text → law → InOrder Der P text x
 
--- Values, one after the other, and the last of them.
-pub joins : {A B : Type 0} {Q : Tree → A → Type 0} {R : Trees → B → Type 0} {x : A} {y : B} {V W : List ℕ → Type 0} {l k : Type 0} → Agree Q x V l → AgreeAll R y W k → AgreeAll (Then Q R) (x, y) (WritesBoth V W) (l × k)
-joins {A} {B} {Q} {R} {x} {y} {V} {W} {l} {k} a b = record {
-  to = λ text s.
-      let h = subst (λ (ts : Trees). SpellsAll Der ts text) s.is.whole s.spelled in
-      let f = a.to h.0 (record { tree = s.is.first; is = s.is.is; spelled = h.2 }) in
-      let r = b.to h.1 (record { trees = s.is.others; is = s.is.rest; spelled = h.3 }) in
-      (record { first = h.0; second = h.1; is_first = f.0; is_second = r.0; whole = h.4 }, (f.1, r.1));
-  back = λ text w law.
-      let f = a.back w.first w.is_first law.0 in
-      let r = b.back w.second w.is_second law.1 in
-      record {
-        trees = more f.tree r.trees;
-        is = record { first = f.tree; others = r.trees; whole = refl; is = f.is; rest = r.is };
-        spelled = (w.first, w.second, f.spelled, r.spelled, w.whole);
-      };
-}
-
--- The same where the first says what comes after it.
+-- Values, one after the other, where the first says what comes after it.
 pub joins_by : {A B : Type 0} {Q : Tree → A → Type 0} {R : A → Trees → B → Type 0} {x : A} {y : B} {V W : List ℕ → Type 0} {l k : Type 0} → Agree Q x V l → AgreeAll (R x) y W k → AgreeAll (ThenBy Q R) (x, y) (WritesBoth V W) (l × k)
 joins_by a b = record {
   to = λ text s.
@@ -58,6 +40,16 @@ joins_by a b = record {
         spelled = (w.first, w.second, f.spelled, r.spelled, w.whole);
       };
 }
+
+-- The same where it doesn't, and the last of them.
+pub joins : {A B : Type 0} {Q : Tree → A → Type 0} {R : Trees → B → Type 0} {x : A} {y : B} {V W : List ℕ → Type 0} {l k : Type 0} → Agree Q x V l → AgreeAll R y W k → AgreeAll (Then Q R) (x, y) (WritesBoth V W) (l × k)
+joins {A} {B} {Q} {R} {x} {y} a b =
+    let both = joins_by {R = λ (z : A). R} a b in record {
+      to = λ text s. both.to text (record { trees = s.trees; is = record { first = s.is.first; others = s.is.others; whole = s.is.whole; is = s.is.is; rest = s.is.rest }; spelled = s.spelled });
+      back = λ text w law.
+          let r = both.back text w law in
+          record { trees = r.trees; is = record { first = r.is.first; others = r.is.others; whole = r.is.whole; is = r.is.is; rest = r.is.rest }; spelled = r.spelled };
+    }
 
 pub last_spelled : {A : Type 0} {Q : Tree → A → Type 0} {text : List ℕ} {x : A × Unit {0}} → InOrder Der (Then Q End) text x → SpellsOf Der Q text x.0
 last_spelled {text = text} s =
@@ -116,24 +108,22 @@ inside {A} {tag} {P} {x} a = record {
 }
 
 -- A value that is tested, and what it means.
-pub such : {A : Type 0} {Q : Tree → A → Type 0} {passes : A → Type 0} {x : A} {W : List ℕ → Type 0} {l : Type 0} → Agree Q x W l → Agree (Such Q passes) x W (l × passes x)
+pub such : {A : Type 0} {Q : Tree → A → Type 0} {passes : A → Type 0} {x : A} {W : List ℕ → Type 0} {l : Type 0} → Agree Q x W l → Agree (Where Q passes) x W (l × passes x)
 such a = record {
   to = λ text s. let r = a.to text (record { tree = s.tree; is = s.is.is; spelled = s.spelled }) in (r.0, (r.1, s.is.meets));
   back = λ text w law. let r = a.back text w law.0 in record { tree = r.tree; is = record { is = r.is; meets = law.1 }; spelled = r.spelled };
 }
 
-pub means : {A B : Type 0} {Q : Tree → A → Type 0} (f : A → B) (g : B → A) {y : B} {W : List ℕ → Type 0} {l : Type 0} → ((x : A) → g (f x) ≡ x) → f (g y) ≡ y → Agree Q (g y) W l → Agree (As Q f) y W l
-means {A} {B} {Q} f g {y} there back a = record {
-  to = λ text s. a.to text (record { tree = s.tree; is = subst (λ (x : A). Q s.tree x) (sym (there s.is.x) ∙ ap g (sym s.is.means)) s.is.is; spelled = s.spelled });
-  back = λ text w law. let r = a.back text w law in record { tree = r.tree; is = record { x = g y; is = r.is; means = sym back }; spelled = r.spelled };
-}
-
--- The same where g finds only what a value of Q tells.
+-- Here g finds what a value of Q tells.
 pub means_of : {A B : Type 0} {Q : Tree → A → Type 0} (f : A → B) (g : B → A) {y : B} {W : List ℕ → Type 0} {l : Type 0} → ((t : Tree) (x : A) → Q t x → g (f x) ≡ x) → f (g y) ≡ y → Agree Q (g y) W l → Agree (As Q f) y W l
 means_of {A} {B} {Q} f g {y} there back a = record {
   to = λ text s. a.to text (record { tree = s.tree; is = subst (λ (x : A). Q s.tree x) (sym (there s.tree s.is.x s.is.is) ∙ ap g (sym s.is.means)) s.is.is; spelled = s.spelled });
   back = λ text w law. let r = a.back text w law in record { tree = r.tree; is = record { x = g y; is = r.is; means = sym back }; spelled = r.spelled };
 }
+
+-- The same where g finds what any value tells.
+pub means : {A B : Type 0} {Q : Tree → A → Type 0} (f : A → B) (g : B → A) {y : B} {W : List ℕ → Type 0} {l : Type 0} → ((x : A) → g (f x) ≡ x) → f (g y) ≡ y → Agree Q (g y) W l → Agree (As Q f) y W l
+means f g there back a = means_of f g (λ t x q. there x) back a
 
 -- A law by another name.
 pub lawful_as : {A : Type 0} {Q : Tree → A → Type 0} {x : A} {W : List ℕ → Type 0} {l k : Type 0} → Agree Q x W l → (l → k) → (k → l) → Agree Q x W k

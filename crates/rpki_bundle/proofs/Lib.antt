@@ -1,5 +1,4 @@
 pub mod Reading
-pub mod Digests
 pub mod DigestWords
 mod Agree
 pub mod Numbered

@@ -20,12 +20,12 @@ pub flag_refused : {T : Type 0} (m : Mode) (v : Version) (relaxed : Bool) (same 
     → IfErr r (WriteRefused (IsFlag v) (WritesFlag m v) same old new)
 flag_refused m v relaxed same old new r e h = subst (λ (w : Version). IfErr r (WriteRefused (IsFlag w) (WritesFlag m w) same old new)) (sym e) h
 
-module _ (v : Version) (text : List ℕ) (depth : ℕ) (A B C : Trees → Type 0) (P Q R : List ℕ → Type 0) (n : ℕ) (e : n ≡ number_of v) where
+module _ (v : Version) (text : List ℕ) (depth : ℕ) (A : Trees → Type 0) (P : List ℕ → Type 0) (n : ℕ) (e : n ≡ number_of v) where
   abbrev Are : ℕ → Trees → Type 0
-  Are k = AreMembers k v text depth A B C
+  Are k = AreMembers k v text depth A
 
   abbrev Writes : ℕ → List ℕ → Type 0
-  Writes k = WritesMembers Der k v text depth P Q R
+  Writes k = WritesMembers Der k v text depth P
 
   -- Members that aren't counted,
   pub count_refused : {T : Type 0} (r : Result T EncodeError) → IfErr r (CannotWrite (Are n) (Writes n)) → IfErr r (CannotWrite (Are (number_of v)) (Writes (number_of v)))

@@ -15,9 +15,6 @@ use Rattle.rpki_bundle.specs.Orders.{IsBefore, Ascends}
 pub record AscendsBelow {A : Type 0} (key : A → List ℕ) (xs : List A) (n : ℕ) : Type 0 where
   pub each : (k : ℕ) (d : A) → k + 1 < n → IsBefore (key (get_or xs k d)) (key (get_or xs (k + 1) d))
 
-pub ascends_begin : {A : Type 0} {key : A → List ℕ} {xs : List A} → AscendsBelow key xs 1
-ascends_begin = record { each = λ k d h. absurd (omega arith) }
-
 -- one more stands before the next
 pub ascends_next : {A : Type 0} {key : A → List ℕ} {xs : List A} (i : ℕ) (x y : A) → x ≡ get_or xs (i - 1) x → y ≡ get_or xs i y → 1 ≤ i → i < length xs → IsBefore (key x) (key y) → AscendsBelow key xs i → AscendsBelow key xs (i + 1)
 ascends_next {A} {key} {xs} i x y xi yi one small before a = record {

@@ -17,7 +17,7 @@ use Rattle.rpki_bundle.specs.bcder_content.Contents.{ValuesLeft, octets, EndsHer
 use Rattle.rpki_bundle.specs.bcder_content.Exact.{Gives, Lacks, ReadsAs, ReadsOptAs, LacksAll, ReadsAllAs}
 use Rattle.rpki_bundle.specs.bcder_content.Grammar.{OctetsOf, As, End}
 use Rattle.rpki_bundle.specs.bcder_content.Here.{here}
-use Rattle.rpki_bundle.specs.bcder_content.Ran.{Reader, fresh, RanIn, refused_in, failed_in, DecodedCases, Decoded}
+use Rattle.rpki_bundle.specs.bcder_content.ClosureReads.{Reader, fresh, ClosureReadsIn, refused_in, failed_in, DecodedCases, Decoded}
 use Rattle.rpki_bundle.proofs.of_bcder_content.Choices.{as_gives, as_lacks, as_lacks_tagged}
 use Rattle.rpki_bundle.proofs.of_bcder_content.Taking.{weaker}
 use Rattle.rpki_bundle.proofs.of_bcder_content.Took.{one_took, whole_none}
@@ -101,7 +101,7 @@ end_met {F} {S} {T} {B} {E} {m} {rest} {g} {op} {f} {P} exact given stop r mode 
     (subst (λ (w : Constructed S). ReadsToEndAs f P (here rest met.shown.now) r (here rest w)) met.leaves
     (exact.each met.shown met.left r (ap (λ (v : Constructed S). (here rest v).mode) met.shows ∙ mode) met.met))
 
-in_fresh : {F S T B E : Type 0} {m : Mode} {rest : S → List ℕ} {g : Reader F (Constructed S) T E} {op : F} {f : T → B} {P : Trees → B → Type 0} {v : ValuesLeft} {r : Result T (DecodeError E)} {end : ValuesLeft} → EndsEach m rest g op f P → v.mode ≡ m → RanIn rest g op v r end → ReadsToEndAs f P v r end
+in_fresh : {F S T B E : Type 0} {m : Mode} {rest : S → List ℕ} {g : Reader F (Constructed S) T E} {op : F} {f : T → B} {P : Trees → B → Type 0} {v : ValuesLeft} {r : Result T (DecodeError E)} {end : ValuesLeft} → EndsEach m rest g op f P → v.mode ≡ m → ClosureReadsIn rest g op v r end → ReadsToEndAs f P v r end
 in_fresh {F} {S} {T} {B} {E} {m} {rest} {g} {op} {f} {P} {v} {r} {end} exact mode on =
     subst (λ (w : ValuesLeft). ReadsToEndAs f P v r w) on.ends
     (subst (λ (w : ValuesLeft). ReadsToEndAs f P w r (here rest on.left)) on.starts

@@ -2,7 +2,6 @@
 use Rattle.std.proofs.Common.{◌≡◌, ℕ, true, List, Some, ◌++◌, [], refl, sym, ap, ◌∙◌, subst, arith, Result, Ok, Err}
 use Rattle.std.specs.Prelude.{IfOk, IfErr, is_ok}
 use Rattle.rpki_bundle.specs.bcder_tree.declared.mode.Mode.TheVariants.{Der}
-use Rattle.rpki_bundle.specs.bcder_tree.Tags.{ia5_string_tag, printable_string_tag}
 use Rattle.rpki_bundle.specs.bcder_primitive.Encoded.{SpellsSome}
 use Rattle.rpki_bundle.specs.bcder_primitive.Integers.{one_unsigned}
 use Rattle.rpki_bundle.specs.bcder_primitive.Simple.{one_string}
@@ -10,17 +9,13 @@ use Rattle.rpki_bundle.specs.bcder_primitive.Writing.{HasLength, Wrote, CannotWr
 use Rattle.rpki_bundle.specs.bcder_primitive.declared.written.error.EncodeError.{EncodeError}
 use Rattle.rpki_bundle.specs.bcder_primitive.declared.written.error.EncodeError.TheVariants.{CerUnsupported, TooLong, Write, Memory}
 use Rattle.rpki_bundle.specs.bcder_values.Laws.{both_spelled, both_one}
-use Rattle.rpki_bundle.specs.bcder_values.Lists.{all_spelled, all_one}
 use Rattle.rpki_bundle.specs.bcder_values.Plains.{plain_spelled, plain_one}
 use Rattle.rpki_bundle.specs.bcder_values.Wraps.{wrapped_spelled, wrapped_one}
-use Rattle.rpki_bundle.specs.declared.parts.Locator.{Locator}
-use Rattle.rpki_bundle.specs.declared.parts.Object.{Object}
-use Rattle.rpki_bundle.specs.declared.parts.Verdict.{Verdict}
 use Rattle.rpki_bundle.specs.declared.version.Version.{Version}
 use Rattle.certs_basics.specs.Times.{IsMoment}
 use Rattle.rpki_bundle.specs.Bundle.{BundleValue, number_of, BundleText, IsSpelled}
 use Rattle.rpki_bundle.specs.Lawful.{IsLawful}
-use Rattle.rpki_bundle.specs.Written.{AreBundle, WritesBundle, pair_spelled, triple_spelled, flag_spelled, pair_one, triple_one, flag_one}
+use Rattle.rpki_bundle.specs.Written.{AreBundle, WritesBundle, flag_spelled, flag_one, lists_spelled, lists_one}
 use Rattle.rpki_bundle.proofs.OneBundle.{bundle_bound}
 use Rattle.rpki_bundle.proofs.Written.{bundle}
 
@@ -54,10 +49,7 @@ written_text {o} {b} text m l w = record { spelled = (bundle text b m).back o w 
 written_one : (text : List ℕ) (b : BundleValue) (s t : List ℕ) → WritesBundle text b Der s → WritesBundle text b Der t → s ≡ t
 written_one text b =
     wrapped_one Der (both_one (plain_one Der (one_unsigned (number_of b.version))) (both_one (plain_one Der (one_string text)) (both_one (plain_one Der (one_unsigned b.depth))
-    (both_one (flag_one Der b.version)
-    (both_one (wrapped_one Der (all_one (λ (l : Locator). pair_one Der printable_string_tag l.name l.text) b.locators))
-    (both_one (wrapped_one Der (all_one (λ (o : Object). pair_one Der ia5_string_tag o.uri o.octets) b.objects))
-    (wrapped_one Der (all_one (λ (v : Verdict). triple_one Der) b.verdicts))))))))
+    (both_one (flag_one Der b.version) (lists_one b.locators b.objects b.verdicts Der)))))
 
 pub one_bundle_text : {a c : List ℕ} {b : BundleValue} → BundleText a b → BundleText c b → a ≡ c
 one_bundle_text {a} {c} {b} p q = let t = text_told p in written_one t.text b a c t.written (text_written t.text t.moment q)
@@ -66,10 +58,7 @@ one_bundle_text {a} {c} {b} p q = let t = text_told p in written_one t.text b a 
 bundle_spells : (text : List ℕ) (b : BundleValue) (o : List ℕ) → WritesBundle text b Der o → SpellsSome Der (AreBundle text b Der) o
 bundle_spells text b =
     wrapped_spelled Der (both_spelled Der (plain_spelled Der) (both_spelled Der (plain_spelled Der) (both_spelled Der (plain_spelled Der)
-    (both_spelled Der (flag_spelled Der b.version)
-    (both_spelled Der (wrapped_spelled Der (all_spelled Der (λ l o w. pair_spelled Der printable_string_tag l.name l.text o w) b.locators))
-    (both_spelled Der (wrapped_spelled Der (all_spelled Der (λ x o w. pair_spelled Der ia5_string_tag x.uri x.octets o w) b.objects))
-    (wrapped_spelled Der (all_spelled Der (λ v o w. triple_spelled Der o w) b.verdicts))))))))
+    (both_spelled Der (flag_spelled Der b.version) (lists_spelled b.locators b.objects b.verdicts Der)))))
 
 -- A bundle that has a text is never refused by the encoder,
 pub never_refused : (text : List ℕ) (b : BundleValue) (e : EncodeError) → IsMoment text b.moment → IsSpelled b → CannotWrite (AreBundle text b Der) (WritesBundle text b Der) e → ⊥
@@ -90,13 +79,6 @@ counted_spelled text b (Err x) m l h e = absurd cc
 -- What is lawful in one version is so in the other.
 pub lawful_as_version : {b : BundleValue} (v : Version) → IsLawful b → IsLawful (record b { version = v })
 lawful_as_version v l = record { lowest = l.lowest; greatest = l.greatest; locators = l.locators; objects = l.objects; verdicts = l.verdicts }
-
--- A bundle whose lists are these.
-abbrev pub with_lists : Version → ℕ → ℕ → List Locator → List Object → List Verdict → BundleValue
-with_lists t m d ls os vs = record { version = t; moment = m; depth = d; locators = ls; objects = os; verdicts = vs }
-
-pub same_lists : {t : Version} {m d : ℕ} {ls ks : List Locator} {os ps : List Object} {vs ws : List Verdict} → ls ≡ ks → os ≡ ps → vs ≡ ws → with_lists t m d ls os vs ≡ with_lists t m d ks ps ws
-same_lists {t} {m} {d} p q r = λ i. record { version = t; moment = m; depth = d; locators = p i; objects = q i; verdicts = r i }
 
 -- What was written after nothing is the text of the bundle.
 pub wrote_view : (text : List ℕ) (b v : BundleValue) (old new : List ℕ) → b ≡ v → IsSpelled b → IsMoment text b.moment → old ≡ [] → Wrote (WritesBundle text b Der) (Some old) (Some new) → BundleText new v

@@ -10,7 +10,7 @@ use Rattle.rpki_bundle.specs.bcder_tree.Strings.{IsPrintable, IsIa5, IsOctetStri
 use Rattle.rpki_bundle.specs.bcder_primitive.Values.{IsBoolean, IsUnsigned}
 use Rattle.rpki_bundle.specs.bcder.Sets.{alone}
 use Rattle.rpki_bundle.specs.bcder.Restricted.{IsRestricted}
-use Rattle.rpki_bundle.specs.bcder_content.Grammar.{Inside, OctetsOf, Such, As, End, Then, Many}
+use Rattle.rpki_bundle.specs.bcder_content.Grammar.{Inside, OctetsOf, Where, As, End, Then, Many}
 use Rattle.rpki_bundle.specs.bcder_content.Words.{ThenBy}
 use Rattle.rpki_bundle.specs.bcder_content.Texts.{SpellsOf}
 use Rattle.rpki_bundle.specs.declared.limits.TheConstants.{MIN_DEPTH, MAX_DEPTH}
@@ -55,7 +55,8 @@ abbrev pub FlagCases : {A : Type 0} → Mode → ℕ → (Trees → A → Type 0
 FlagCases m number R ts Zero x = (number ≡ 0) × R ts x
 FlagCases m number R ts (One relaxed) x = (number ≡ 1) × Then (IsFlag m) R ts (relaxed, x)
 
-pub record Flag {A : Type 0} (m : Mode) (number : ℕ) (R : Trees → A → Type 0) (ts : Trees) (x : Version × A) : Type 0 where
+pub record Flag {A : Type 0} (m : Mode) (number : ℕ) (R : Trees → A → Type 0) (ts : Trees)
+    (x : Version × A) : Type 0 where
   pub cases : FlagCases m number R ts x.0 x.1
 
 -- GeneralizedTime: YYYYMMDDHHMMSSZ (RFC 5280 4.1.2.5.2)
@@ -67,18 +68,18 @@ abbrev pub IsDepth : ℕ → Type 0
 IsDepth n = (MIN_DEPTH ≤ n) × (n ≤ MAX_DEPTH)
 
 abbrev pub IsDepthNumber : Tree → ℕ → Type 0
-IsDepthNumber = Such IsNumber IsDepth
+IsDepthNumber = Where IsNumber IsDepth
 
 -- PrintableString: a name, not empty, and without a space (32)
 abbrev pub IsWord : List ℕ → Type 0
 IsWord text = (text ≢ []) × All (λ c. c ≢ 32) text
 
 abbrev pub IsNameString : Mode → Tree → List ℕ → Type 0
-IsNameString m = Such (IsRestricted IsPrintable alone m printable_string_tag) IsWord
+IsNameString m = Where (IsRestricted IsPrintable alone m printable_string_tag) IsWord
 
 -- IA5String: a URI that is its own lookup key
 abbrev pub IsUriString : Mode → Tree → List ℕ → Type 0
-IsUriString m = Such (IsRestricted IsIa5 alone m ia5_string_tag) IsLookupKey
+IsUriString m = Where (IsRestricted IsIa5 alone m ia5_string_tag) IsLookupKey
 
 -- OCTET STRING (SIZE (32))
 pub record IsDigest (content octets : List ℕ) : Type 0 where
@@ -139,8 +140,9 @@ abbrev pub verdict_row : Verdict → List ℕ
 verdict_row v = v.key ++ (v.message ++ v.signature)
 
 -- SEQUENCE OF, strictly ascending by the rows of octets that `row` gives
-abbrev pub IsAscendingList : {A : Type 0} → (Tree → A → Type 0) → (A → List ℕ) → Tree → List A → Type 0
-IsAscendingList Q row = Such (Inside sequence_tag (Many Q)) (Ascends row)
+abbrev pub IsAscendingList : {A : Type 0} → (Tree → A → Type 0) → (A → List ℕ) → Tree → List A
+    → Type 0
+IsAscendingList Q row = Where (Inside sequence_tag (Many Q)) (Ascends row)
 
 -- Bundle ::= SEQUENCE { version, moment, depth, relaxed, locators, objects, verdicts }
 abbrev pub Lists : Type 0

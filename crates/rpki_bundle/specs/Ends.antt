@@ -10,7 +10,8 @@ use Rattle.rpki_bundle.specs.declared.error.BundleError.{BundleError}
 use Rattle.rpki_bundle.specs.declared.error.BundleError.TheVariants as bundle_error
 
 -- A reader of a whole content, up to its end, by what its answer means.
-abbrev pub ReadsToEndAs : {A B E : Type 0} → (A → B) → (Trees → B → Type 0) → ValuesLeft → Result A (DecodeError E) → ValuesLeft → Type 0
+abbrev pub ReadsToEndAs : {A B E : Type 0} → (A → B) → (Trees → B → Type 0) → ValuesLeft
+    → Result A (DecodeError E) → ValuesLeft → Type 0
 ReadsToEndAs f P old (Ok x) new = GivesAll P old (f x) new × Ended new
 ReadsToEndAs f P old (Err e) new = OnContent e (LacksAll P old)
 

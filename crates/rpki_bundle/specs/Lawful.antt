@@ -27,7 +27,8 @@ abbrev pub IsLawfulVerdict : Verdict → Type 0
 IsLawfulVerdict v = (length v.key ≡ 32) × (length v.message ≡ 32) × (length v.signature ≡ 32)
 
 -- Entries that are lawful, strictly ascending by their rows.
-pub record IsLawfulList {A : Type 0} (lawful : A → Type 0) (row : A → List ℕ) (xs : List A) : Type 0 where
+pub record IsLawfulList {A : Type 0} (lawful : A → Type 0) (row : A → List ℕ) (xs : List A)
+    : Type 0 where
   pub each : All lawful xs
   pub ascend : Ascends row xs
 

@@ -17,7 +17,8 @@ string m tag = record { one = λ t x y p q. one_string m tag t x y p q }
 pub octets : (m : Mode) → One (IsOctetString m)
 octets m = string m octet_string_tag
 
-pub text : (Has : ℕ → Type 0) (spell : ℕ → List ℕ) (m : Mode) (tag : TagValue) → One (IsRestricted Has spell m tag)
+pub text : (Has : ℕ → Type 0) (spell : ℕ → List ℕ) (m : Mode) (tag : TagValue)
+    → One (IsRestricted Has spell m tag)
 text Has spell m tag = such_one (string m tag)
 
 digest : One IsDigestString

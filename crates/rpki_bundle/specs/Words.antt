@@ -11,7 +11,11 @@ abbrev pub octets_of : DigestWords → List ℕ
 octets_of w = flat_map (to_le_bytes w64) (w.first ∷ w.second ∷ w.third ∷ w.fourth ∷ [])
 
 abbrev pub verdict_of : VerdictWords → Verdict
-verdict_of v = record { key = octets_of v.key; message = octets_of v.message; signature = octets_of v.signature }
+verdict_of v = record {
+  key = octets_of v.key;
+  message = octets_of v.message;
+  signature = octets_of v.signature;
+}
 
 abbrev pub words_fields : VerdictWords → Digests
 words_fields v = (octets_of v.key, (octets_of v.message, (octets_of v.signature, tt)))

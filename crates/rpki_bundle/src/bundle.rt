@@ -30,12 +30,7 @@ use std::marker::Model;
 /// published objects, and the signatures that are good.
 #[derive(Debug, Drop)]
 pub struct Bundle {
-    version: Version,
-    moment: Time,
-    depth: u8,
-    locators: Vec<Locator>,
-    objects: Vec<Object>,
-    verdicts: Vec<Verdict>,
+    parts: Parts,
 }
 
 impl Model for Bundle {
@@ -43,26 +38,13 @@ impl Model for Bundle {
 
     ghost Value = { BundleValue };
 
+    ghost use Rattle.rpki_bundle.specs.PartFields.{parts_value};
+
+    ghost view = { λ b. parts_value b.parts };
+
     ghost use Rattle.rpki_bundle.specs.Bundle.{IsSpelled};
 
-    ghost view = { λ b. record {
-      version = b.version;
-      moment = b.moment;
-      depth = b.depth;
-      locators = b.locators.items;
-      objects = b.objects.items;
-      verdicts = b.verdicts.items;
-    } };
-
-    ghost invariant = { λ b. IsSpelled
-        (record {
-          version = b.version;
-          moment = b.moment;
-          depth = b.depth;
-          locators = b.locators.items;
-          objects = b.objects.items;
-          verdicts = b.verdicts.items;
-        }) };
+    ghost invariant = { λ b. IsSpelled (parts_value b.parts) };
 }
 
 // The bundle of what was read.
@@ -70,25 +52,7 @@ fn bundle_of(parts: Parts) -> Bundle
     requires { IsSpelled (parts_value parts) }
     ensures { result ≡ parts_value parts }
 {
-    let Parts {
-        version,
-        moment,
-        depth,
-        entries,
-    } = parts;
-    let Entries {
-        locators,
-        objects,
-        verdicts,
-    } = entries;
-    Bundle {
-        version,
-        moment,
-        depth,
-        locators,
-        objects,
-        verdicts,
-    }
+    Bundle { parts }
 }
 
 // Why octets are no bundle, by why they can't be read.
@@ -103,84 +67,36 @@ fn refusal(error: DecodeError<Infallible>) -> BundleError
 }
 
 // Whether a bundle may have these parts.
-fn is_lawful(
-    version: Version,
-    moment: Time,
-    depth: u8,
-    locators: &[Locator],
-    objects: &[Object],
-    verdicts: &[Verdict],
-) -> bool
-    ensures { IsTrue result
-        ↔ IsSpelled
-        (record {
-          version = version;
-          moment = moment;
-          depth = depth;
-          locators = locators.now;
-          objects = objects.now;
-          verdicts = verdicts.now;
-        }) }
+fn is_lawful(parts: &Parts) -> bool
+    ensures { IsTrue result ↔ IsSpelled (parts_value parts.now) }
 {
-    if !is_depth(depth) {
+    if !is_depth(parts.depth) {
         return false;
     }
-    if !is_lawful_list(locators) {
+    if !is_lawful_list(parts.entries.locators.as_slice()) {
         return false;
     }
-    if !is_lawful_list(objects) {
+    if !is_lawful_list(parts.entries.objects.as_slice()) {
         return false;
     }
-    if !is_lawful_list(verdicts) {
+    if !is_lawful_list(parts.entries.verdicts.as_slice()) {
         return false;
     }
-    let text = moment.generalized();
-    members_len(version, &text, depth, locators, objects, verdicts).is_ok()
+    let text = parts.moment.generalized();
+    members_len(parts.version, &text, parts.depth, &parts.entries).is_ok()
 }
 
 // A bundle with these parts, if there is one.
-fn of_parts(
-    version: Version,
-    moment: Time,
-    depth: u8,
-    locators: Vec<Locator>,
-    objects: Vec<Object>,
-    verdicts: Vec<Verdict>,
-) -> Result<Bundle, BundleError>
-    ensures ok { IfOk result (λ b. b
-        ≡ record {
-          version = version;
-          moment = moment;
-          depth = depth;
-          locators = locators.items;
-          objects = objects.items;
-          verdicts = verdicts.items;
-        }) }
+fn of_parts(parts: Parts) -> Result<Bundle, BundleError>
+    ensures ok { IfOk result (λ b. b ≡ parts_value parts) }
     ensures spelled { IfOk result (λ b. (octets : List ℕ) × BundleText octets b) }
     ensures refused { IfErr result (λ e. (e ≡ not_a_bundle)
-        × ((octets : List ℕ)
-        → BundleText octets
-        (record {
-          version = version;
-          moment = moment;
-          depth = depth;
-          locators = locators.items;
-          objects = objects.items;
-          verdicts = verdicts.items;
-        }) → ⊥)) }
+        × ((octets : List ℕ) → BundleText octets (parts_value parts) → ⊥)) }
 {
-    let (names, uris, digests) = (locators.as_slice(), objects.as_slice(), verdicts.as_slice());
-    if !is_lawful(version, moment, depth, names, uris, digests) {
+    if !is_lawful(&parts) {
         return Err(BundleError::NotABundle);
     }
-    Ok(Bundle {
-        version,
-        moment,
-        depth,
-        locators,
-        objects,
-        verdicts,
-    })
+    Ok(Bundle { parts })
 }
 
 // The octets of the object at the lookup key of a URI, among objects that ascend.
@@ -236,7 +152,16 @@ impl Bundle {
               verdicts = verdicts.items;
             }) → ⊥)) }
     {
-        of_parts(Version::Zero, moment, depth, locators, objects, verdicts)
+        of_parts(Parts {
+            version: Version::Zero,
+            moment,
+            depth,
+            entries: Entries {
+                locators,
+                objects,
+                verdicts,
+            },
+        })
     }
 
     /// A bundle of version 1 with these parts, as [`Bundle::from_parts`] makes one of version 0. Where `relaxed` is true,
@@ -271,14 +196,16 @@ impl Bundle {
               verdicts = verdicts.items;
             }) → ⊥)) }
     {
-        of_parts(
-            Version::One { relaxed },
+        of_parts(Parts {
+            version: Version::One { relaxed },
             moment,
             depth,
-            locators,
-            objects,
-            verdicts,
-        )
+            entries: Entries {
+                locators,
+                objects,
+                verdicts,
+            },
+        })
     }
 
     /// The bundle of version 1 with the same parts, of a bundle of any version. Where `relaxed` is true, its manifests, ROAs
@@ -298,32 +225,28 @@ impl Bundle {
         if !self.has_text_as(version) {
             return Err((self, BundleError::NotABundle));
         }
-        let Bundle {
+        let Bundle { parts } = self;
+        let Parts {
             version: _,
             moment,
             depth,
-            locators,
-            objects,
-            verdicts,
-        } = self;
-        Ok(Bundle {
+            entries,
+        } = parts;
+        let parts = Parts {
             version,
             moment,
             depth,
-            locators,
-            objects,
-            verdicts,
-        })
+            entries,
+        };
+        Ok(Bundle { parts })
     }
 
     // Whether octets spell the bundle with that version in place of its own.
     fn has_text_as(&self, version: Version) -> bool
         ensures { IsTrue result ↔ IsSpelled (record self.now { version = version }) }
     {
-        let moment = self.moment.generalized();
-        let (names, uris) = (self.locators.as_slice(), self.objects.as_slice());
-        let digests = self.verdicts.as_slice();
-        members_len(version, &moment, self.depth, names, uris, digests).is_ok()
+        let moment = self.parts.moment.generalized();
+        members_len(version, &moment, self.parts.depth, &self.parts.entries).is_ok()
     }
 
     /// Reads a bundle, in DER.
@@ -358,32 +281,22 @@ impl Bundle {
     pub fn is_spelled(&self)
         ensures { (octets : List ℕ) × BundleText octets self.now }
     {
-        let _depth = self.depth;
+        let _depth = self.parts.depth;
     }
 
     /// The octets of the bundle: the only ones that are read as it.
     pub fn encode(&self, alloc: Global) -> Result<Vec<u8>, AllocError>
         ensures { IfOk result (λ v. BundleText v.items self.now) }
     {
-        let text = self.moment.generalized();
-        let locators = self.locators.as_slice();
-        let objects = self.objects.as_slice();
-        let verdicts = self.verdicts.as_slice();
-        let (version, depth) = (self.version, self.depth);
-        let size = match members_len(version, &text, depth, locators, objects, verdicts) {
+        let text = self.parts.moment.generalized();
+        let entries = &self.parts.entries;
+        let (version, depth) = (self.parts.version, self.parts.depth);
+        let size = match members_len(version, &text, depth, entries) {
             Ok(size) => size,
             Err(_) => unreachable!(),
         };
         let mut octets = Vec::with_capacity(alloc, size)?;
-        match write_members(
-            version,
-            &text,
-            depth,
-            locators,
-            objects,
-            verdicts,
-            &mut octets,
-        ) {
+        match write_members(version, &text, depth, entries, &mut octets) {
             Ok(()) => Ok(octets),
             Err(_) => Err(AllocError),
         }
@@ -400,55 +313,55 @@ impl Bundle {
         if !is_uri(uri) {
             return None;
         }
-        find(self.objects.as_slice(), uri)
+        find(self.parts.entries.objects.as_slice(), uri)
     }
 
     /// The version.
     pub fn version(&self) -> Version
         ensures { result ≡ self.now.version }
     {
-        self.version
+        self.parts.version
     }
 
     /// Whether manifests, ROAs and ASPAs are read in BER; those of a bundle of version 0 never are.
     pub fn relaxed(&self) -> bool
         ensures { result ≡ is_relaxed self.now.version }
     {
-        self.version.is_relaxed()
+        self.parts.version.is_relaxed()
     }
 
     /// The moment at which validity is judged.
     pub fn moment(&self) -> Time
         ensures { result ≡ self.now.moment }
     {
-        self.moment
+        self.parts.moment
     }
 
     /// The greatest number of certificates in a chain, from `MIN_DEPTH` to `MAX_DEPTH`.
     pub fn depth(&self) -> u8
         ensures { result ≡ self.now.depth }
     {
-        self.depth
+        self.parts.depth
     }
 
     /// The trust anchor locators, ascending by name.
     pub fn locators(&self) -> &[Locator]
         ensures { result.now ≡ self.now.locators }
     {
-        self.locators.as_slice()
+        self.parts.entries.locators.as_slice()
     }
 
     /// The objects, ascending by URI.
     pub fn objects(&self) -> &[Object]
         ensures { result.now ≡ self.now.objects }
     {
-        self.objects.as_slice()
+        self.parts.entries.objects.as_slice()
     }
 
     /// The good signatures, ascending by their three digests.
     pub fn verdicts(&self) -> &[Verdict]
         ensures { result.now ≡ self.now.verdicts }
     {
-        self.verdicts.as_slice()
+        self.parts.entries.verdicts.as_slice()
     }
 }

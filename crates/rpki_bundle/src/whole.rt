@@ -15,8 +15,8 @@ use certs_key::Mode;
 use certs_key::decode::{Constructed, ContentError, Decode, DecodeError, IntoSource, Source};
 use std::alloc::Global;
 
-/// What was read of a bundle's lists.
-#[derive(Drop)]
+/// A bundle's lists.
+#[derive(Debug, Drop)]
 pub struct Entries {
     /// The trust anchor locators.
     pub locators: Vec<Locator>,
@@ -26,8 +26,8 @@ pub struct Entries {
     pub verdicts: Vec<Verdict>,
 }
 
-/// What was read of a bundle.
-#[derive(Drop)]
+/// The parts of a bundle.
+#[derive(Debug, Drop)]
 pub struct Parts {
     /// The version.
     pub version: Version,

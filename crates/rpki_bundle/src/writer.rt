@@ -12,6 +12,7 @@ ghost use Rattle.rpki_bundle.specs.Written.{AreMembers, IsPair, IsTriple, Writes
 
 use crate::Version;
 use crate::version::Flag;
+use crate::whole::Entries;
 use certs_key::encode::{Constructed, EncodeError, Octets, Primitive, Values};
 use certs_key::string::OctetSliceEncoder;
 use certs_key::{Mode, Tag};
@@ -141,25 +142,66 @@ pub fn write_triple<T: AsSlice<u8> + Drop, W: Write>(
     values.write_encoded(mode, target)
 }
 
+/// The lists, one after the other, each a SEQUENCE OF its entries.
+impl Values for Entries {
+    ghost use Rattle.rpki_bundle.specs.Written.{ListTrees, WritesLists, lists_spelled, lists_one};
+
+    ghost trees = { λ e. ListTrees e.locators.items e.objects.items e.verdicts.items };
+
+    ghost writes = { λ e. WritesLists e.locators.items e.objects.items e.verdicts.items };
+
+    fn encoded_len(&self, mode: Mode) -> Result<usize, EncodeError> {
+        let tag = Tag::SEQUENCE;
+        let locators = Constructed {
+            tag,
+            inner: &self.locators,
+        };
+        let objects = Constructed {
+            tag,
+            inner: &self.objects,
+        };
+        let verdicts = Constructed {
+            tag,
+            inner: &self.verdicts,
+        };
+        (locators, objects, verdicts).encoded_len(mode)
+    }
+
+    fn write_encoded<W: Write>(&self, mode: Mode, target: &mut W) -> Result<(), EncodeError> {
+        let tag = Tag::SEQUENCE;
+        let locators = Constructed {
+            tag,
+            inner: &self.locators,
+        };
+        let objects = Constructed {
+            tag,
+            inner: &self.objects,
+        };
+        let verdicts = Constructed {
+            tag,
+            inner: &self.verdicts,
+        };
+        (locators, objects, verdicts).write_encoded(mode, target)
+    }
+
+    ghost spelled = { λ e. lists_spelled e.locators.items e.objects.items e.verdicts.items };
+
+    ghost one_text = { λ e. lists_one e.locators.items e.objects.items e.verdicts.items };
+}
+
 /// How many octets a bundle has, in DER.
-pub fn members_len<T: AsSlice<u8> + Drop, A: Values + Drop, B: Values + Drop, C: Values + Drop>(
+pub fn members_len<T: AsSlice<u8> + Drop, E: Values + Drop>(
     version: Version,
     text: T,
     depth: u8,
-    locators: A,
-    objects: B,
-    verdicts: C,
+    entries: E,
 ) -> Result<usize, EncodeError>
-    ensures len { IfOk result
-        (HasLength
-        (WritesMembers Der (number_of version) version (T.items text) depth (A.writes locators Der) (B.writes objects Der)
-        (C.writes verdicts Der))) }
-    ensures refused { IfErr result
-        (CannotWrite
-        (AreMembers (number_of version) version (T.items text) depth (A.trees locators Der) (B.trees objects Der)
-        (C.trees verdicts Der))
-        (WritesMembers Der (number_of version) version (T.items text) depth (A.writes locators Der) (B.writes objects Der)
-        (C.writes verdicts Der))) }
+    ensures len { IfOk result (HasLength (WritesMembers Der (number_of version) version
+        (T.items text) depth (E.writes entries Der))) }
+    ensures refused { IfErr result (CannotWrite
+        (AreMembers (number_of version) version (T.items text) depth (E.trees entries Der))
+        (WritesMembers Der (number_of version) version (T.items text) depth
+        (E.writes entries Der))) }
 {
     let tag = Tag::INTEGER;
     let flag = Flag { version };
@@ -175,52 +217,28 @@ pub fn members_len<T: AsSlice<u8> + Drop, A: Values + Drop, B: Values + Drop, C:
         tag,
         content: depth,
     };
-    let tag = Tag::SEQUENCE;
-    let locators = Constructed {
-        tag,
-        inner: locators,
-    };
-    let objects = Constructed {
-        tag,
-        inner: objects,
-    };
-    let verdicts = Constructed {
-        tag,
-        inner: verdicts,
-    };
     let values = Constructed {
-        tag,
-        inner: (number, moment, depth, flag, locators, objects, verdicts),
+        tag: Tag::SEQUENCE,
+        inner: (number, moment, depth, flag, entries),
     };
     values.encoded_len(Mode::Der)
 }
 
 /// Writes a bundle, in DER.
-pub fn write_members<
-    T: AsSlice<u8> + Drop,
-    A: Values + Drop,
-    B: Values + Drop,
-    C: Values + Drop,
-    W: Write,
->(
+pub fn write_members<T: AsSlice<u8> + Drop, E: Values + Drop, W: Write>(
     version: Version,
     text: T,
     depth: u8,
-    locators: A,
-    objects: B,
-    verdicts: C,
+    entries: E,
     target: &mut W,
 ) -> Result<(), EncodeError>
-    ensures written { OnOk result
-        (Wrote
-        (WritesMembers Der (number_of version) version (T.items text) depth (A.writes locators Der) (B.writes objects Der)
-        (C.writes verdicts Der)) (W.contents target.old) (W.contents target.new)) }
-    ensures refused { IfErr result
-        (WriteRefused
-        (AreMembers (number_of version) version (T.items text) depth (A.trees locators Der) (B.trees objects Der)
-        (C.trees verdicts Der))
-        (WritesMembers Der (number_of version) version (T.items text) depth (A.writes locators Der) (B.writes objects Der)
-        (C.writes verdicts Der)) (target.new ≡ target.old) (W.contents target.old)
+    ensures written { OnOk result (Wrote (WritesMembers Der (number_of version) version
+        (T.items text) depth (E.writes entries Der)) (W.contents target.old)
+        (W.contents target.new)) }
+    ensures refused { IfErr result (WriteRefused
+        (AreMembers (number_of version) version (T.items text) depth (E.trees entries Der))
+        (WritesMembers Der (number_of version) version (T.items text) depth
+        (E.writes entries Der)) (target.new ≡ target.old) (W.contents target.old)
         (W.contents target.new)) }
 {
     let tag = Tag::INTEGER;
@@ -237,22 +255,9 @@ pub fn write_members<
         tag,
         content: depth,
     };
-    let tag = Tag::SEQUENCE;
-    let locators = Constructed {
-        tag,
-        inner: locators,
-    };
-    let objects = Constructed {
-        tag,
-        inner: objects,
-    };
-    let verdicts = Constructed {
-        tag,
-        inner: verdicts,
-    };
     let values = Constructed {
-        tag,
-        inner: (number, moment, depth, flag, locators, objects, verdicts),
+        tag: Tag::SEQUENCE,
+        inner: (number, moment, depth, flag, entries),
     };
     values.write_encoded(Mode::Der, target)
 }

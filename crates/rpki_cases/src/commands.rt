@@ -7,7 +7,6 @@ use crate::walks::tell_run;
 use answers::{Answer, count_of, pieces_of, word_at};
 use anyhow::Result;
 use objects_payload::locator::Tal;
-use rpki_commands::folder::Fault;
 use rpki_commands::{Command, FAILED, bundle, check, command_of};
 use rpki_digests::Fips;
 use rpki_validator::{BundleError, Cause, Counted, Digester, RunError, word_of, write_all};
@@ -131,10 +130,6 @@ pub fn texts(answer: &mut Answer) {
     text(answer, &RunError::NotABundle);
     text(answer, &RunError::Write);
     text(answer, &RunError::Memory);
-    text(answer, &Fault::Read);
-    text(answer, &Fault::NotABundle);
-    text(answer, &Fault::Write);
-    text(answer, &Fault::Memory);
     text(answer, &BundleError::NotABundle);
     text(answer, &BundleError::Memory);
     answer.word(word_of(Cause::Tal));

@@ -1,12 +1,12 @@
 -- Names of what stands in folders, and the URIs that they make.
-use Rattle.std.proofs.Common.{◌≡◌, ◌≢◌, ℕ, zero, suc, ◌+◌, ◌<◌, eqb, List, [], ◌∷◌, ◌++◌, Option, Some, None, All, get_or, take, drop, length, string_bytes, refl, sym, ap, ◌∙◌, subst, ⊎_elim, append_assoc, append-nil, length-append, length-drop, get_or-drop, arith}
+use Rattle.std.proofs.Common.{◌≡◌, ◌≢◌, ℕ, zero, suc, ◌+◌, ◌<◌, eqb, List, [], ◌∷◌, ◌++◌, Option, Some, None, get_or, take, drop, length, string_bytes, refl, sym, ap, ◌∙◌, subst, ⊎_elim, append_assoc, append-nil, length-append, length-drop, get_or-drop, arith}
 use Rattle.std.proofs.lemmas.List.Elements.{All-from_get_or, All-nil, All-push}
 use Rattle.std.proofs.lemmas.Bool.{cases_eq, cond_both, eqb-false}
 use Rattle.std.proofs.lemmas.List.{get_or_append_left}
 use Rattle.std.specs.Path.{rfind_below, rsplit_once, slash}
 use Rattle.std.specs.Prelude.{option_map, unwrap_or}
 use Rattle.rpki_commands.specs.declared.folder.walk.Pending.{Pending}
-use Rattle.rpki_commands.specs.Limits.{IsAtLevel, IsEntryName, IsFileUri, IsPending, IsScheme, path_of}
+use Rattle.rpki_commands.specs.Limits.{IsAtLevel, IsEntryName, IsPending, IsScheme, path_of}
 
 abbrev IsBehind : Option ℕ → ℕ → Type 0
 IsBehind None i = Unit {0}

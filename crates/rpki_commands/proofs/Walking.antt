@@ -1,7 +1,7 @@
 -- What was read so far of a folder stays within its limits.
-use Rattle.std.proofs.Common.{◌≡◌, ◌≢◌, ◌↔◌, Bool, true, false, IsTrue, ℕ, zero, suc, ◌+◌, ◌^◌, ◌<◌, ◌≤◌, ◌⊎◌, inl, inr, List, [], ◌∷◌, ◌++◌, Option, Some, None, IfSome, All, length, string_bytes, refl, sym, ap, ◌∙◌, subst, append_assoc, length-append, arith}
+use Rattle.std.proofs.Common.{◌≡◌, ◌≢◌, ◌↔◌, Bool, true, false, IsTrue, ℕ, zero, suc, ◌+◌, ◌^◌, ◌≤◌, List, [], ◌∷◌, ◌++◌, Option, IfSome, All, length, refl, sym, ap, ◌∙◌, subst, length-append, arith}
 use Rattle.std.proofs.lemmas.Bool.{true≢false}
-use Rattle.std.proofs.lemmas.List.Elements.{All-append, All-from_get_or, All-nil, All-pop, All-push, All-take}
+use Rattle.std.proofs.lemmas.List.Elements.{All-nil, All-pop, All-push}
 use Rattle.std.proofs.lemmas.List.Sums.{sum_by_push}
 use Rattle.std.specs.List.{sum_by}
 use Rattle.std.specs.Prelude.{option_to_list}
@@ -10,7 +10,7 @@ use Rattle.rpki_commands.specs.rpki_bundle.declared.parts.Object.{Object}
 use Rattle.rpki_commands.specs.declared.folder.walk.Pending.{Pending}
 use Rattle.rpki_commands.specs.declared.folder.parts.Contents.{Contents}
 use Rattle.rpki_commands.specs.declared.folder.walk.Walk.{Walk}
-use Rattle.rpki_commands.specs.Limits.{IsAtLevel, IsEntryName, IsFileUri, IsPending, IsScheme, IsWalked, IsWithin, octets_kept, path_of}
+use Rattle.rpki_commands.specs.Limits.{IsEntryName, IsFileUri, IsPending, IsWalked, IsWithin, octets_kept}
 
 abbrev AllNames : List Locator → Type 0
 AllNames = All (λ l. IsEntryName l.name)

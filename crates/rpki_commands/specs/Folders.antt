@@ -23,7 +23,8 @@ IsSortedOn row xs = IsSortedByKey row (slice_cmp nat_cmp) xs
 -- The version: 1 where a text says whether signed objects are relaxed, and 0 where there is none.
 abbrev pub TellsVersion : Option (Vec ℕ Global) → Version → Type 0
 TellsVersion None version = version ≡ Zero
-TellsVersion (Some text) version = (relaxed : Bool) × TellsFlag text.items relaxed × (version ≡ One relaxed)
+TellsVersion (Some text) version =
+    (relaxed : Bool) × TellsFlag text.items relaxed × (version ≡ One relaxed)
 
 -- The texts of one line are good, and `verdicts` isn't too long: what can be said before any memory is taken.
 pub record TellsLines (c : Contents) : Type 0 where

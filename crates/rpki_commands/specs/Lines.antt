@@ -10,13 +10,17 @@ IsLineEnd end = (end ≡ 10 ∷ []) ⊎ (end ≡ 13 ∷ 10 ∷ [])
 abbrev pub IsEnd : List ℕ → Type 0
 IsEnd end = (end ≡ []) ⊎ IsLineEnd end
 
--- YYYYMMDDHHMMSSZ, and then a line end or nothing.
-pub record TellsMoment (text : List ℕ) (moment : ℕ) : Type 0 where
+-- A line that states a number, and then a line end or nothing.
+pub record TellsNumber (Is : List ℕ → ℕ → Type 0) (text : List ℕ) (number : ℕ) : Type 0 where
   pub line : List ℕ
   pub end : List ℕ
   pub whole : text ≡ line ++ end
-  pub line_is : IsMoment line moment
+  pub line_is : Is line number
   pub end_is : IsEnd end
+
+-- YYYYMMDDHHMMSSZ.
+abbrev pub TellsMoment : List ℕ → ℕ → Type 0
+TellsMoment text moment = TellsNumber IsMoment text moment
 
 -- One or two decimal digits (48 to 57), the first of them not 0.
 abbrev pub IsDepth : List ℕ → ℕ → Type 0
@@ -24,13 +28,8 @@ IsDepth line depth =
     ((1 ≤ depth) × (depth ≤ 9) × (line ≡ (48 + depth) ∷ []))
     ⊎ ((10 ≤ depth) × (depth ≤ 99) × (line ≡ (48 + depth / 10) ∷ (48 + depth % 10) ∷ []))
 
--- A depth, and then a line end or nothing.
-pub record TellsDepth (text : List ℕ) (depth : ℕ) : Type 0 where
-  pub line : List ℕ
-  pub end : List ℕ
-  pub whole : text ≡ line ++ end
-  pub line_is : IsDepth line depth
-  pub end_is : IsEnd end
+abbrev pub TellsDepth : List ℕ → ℕ → Type 0
+TellsDepth text depth = TellsNumber IsDepth text depth
 
 -- Whether signed objects are relaxed, in a word,
 abbrev pub flag_word : Bool → List ℕ

@@ -1,12 +1,13 @@
 -- The octets that a folder becomes.
-use Rattle.std.specs.Prelude.{◌≡◌, ℕ, ◌+◌, List, Option, Some, None, Result, Ok, Err}
+use Rattle.std.specs.Prelude.{◌≡◌, ℕ, List, Option, Some, None, Result, Ok, Err}
 use Rattle.std.specs.Io.KnownBytes.{Appends, Keeps}
 use Rattle.rpki_commands.specs.rpki_bundle.Bundle.{BundleValue, BundleText}
+use Rattle.rpki_validator.specs.Run.{CountsWrites}
 use Rattle.rpki_validator.specs.Streams.{TakesSome}
+use Rattle.rpki_validator.specs.declared.runs.RunError.{RunError}
+use Rattle.rpki_validator.specs.declared.runs.RunError.TheVariants as faults
 use Rattle.rpki_commands.specs.Folders.{Tells, TellsLines}
 use Rattle.rpki_commands.specs.Limits.{IsReading}
-use Rattle.rpki_commands.specs.declared.folder.Fault.{Fault}
-use Rattle.rpki_commands.specs.declared.folder.Fault.TheVariants as faults
 use Rattle.rpki_commands.specs.declared.folder.ReadFault.{ReadFault}
 use Rattle.rpki_commands.specs.declared.folder.ReadFault.TheVariants as reads
 use Rattle.rpki_commands.specs.declared.folder.parts.Contents.{Contents}
@@ -34,7 +35,7 @@ pub record StopsWriting (c : Contents) (before after : Option (List ℕ)) : Type
   pub written : TakesSome before after text
 
 -- What each fault says of the contents and of what was written of them.
-abbrev pub ContentsFail : Contents → Fault → Option (List ℕ) → Option (List ℕ) → Type 0
+abbrev pub ContentsFail : Contents → RunError → Option (List ℕ) → Option (List ℕ) → Type 0
 ContentsFail c faults.Read before after = ⊥
 ContentsFail c faults.NotABundle before after = Keeps before after × TellsNoText c
 ContentsFail c faults.Write before after = StopsWriting c before after
@@ -48,7 +49,7 @@ WritesReading (Ok None) before after = ⊥
 WritesReading (Err fault) before after = ⊥
 
 -- or the fault is that of the contents, or of the reading, and then nothing was written: too many octets are no bundle.
-abbrev pub ReadingFails : Result (Option Contents) ReadFault → Fault → Option (List ℕ)
+abbrev pub ReadingFails : Result (Option Contents) ReadFault → RunError → Option (List ℕ)
     → Option (List ℕ) → Type 0
 ReadingFails (Ok (Some c)) fault before after = ContentsFail c fault before after
 ReadingFails (Ok None) fault before after = (fault ≡ faults.NotABundle) × Keeps before after
@@ -62,20 +63,14 @@ pub record WritesBundle (before after : Option (List ℕ)) : Type 0 where
   pub written : WritesReading reading before after
 
 -- What a fault says of what was read of a folder, and of what was written of that.
-pub record BundleFails (fault : Fault) (before after : Option (List ℕ)) : Type 0 where
+pub record BundleFails (fault : RunError) (before after : Option (List ℕ)) : Type 0 where
   pub reading : Result (Option Contents) ReadFault
   pub read : IsReading reading
   pub failed : ReadingFails reading fault before after
 
--- The writer's count of failures rises by one exactly at `Write`.
-abbrev pub CountsFault : Fault → ℕ → ℕ → Type 0
-CountsFault faults.Read old new = new ≡ old
-CountsFault faults.NotABundle old new = new ≡ old
-CountsFault faults.Write old new = new ≡ old + 1
-CountsFault faults.Memory old new = new ≡ old
-
 -- The command ended with a fault, and the count says whether it was the writer's.
-pub record EndsWithFault (before after : Option (List ℕ)) (count_before count_after : ℕ) : Type 0 where
-  pub fault : Fault
+pub record EndsWithFault (before after : Option (List ℕ)) (count_before count_after : ℕ)
+    : Type 0 where
+  pub fault : RunError
   pub fails : BundleFails fault before after
-  pub count : CountsFault fault count_before count_after
+  pub count : CountsWrites {T = Unit {0}} (Err fault) count_before count_after

@@ -13,25 +13,7 @@ ghost use Rattle.rpki_commands.specs.declared.folder.ReadFault.TheVariants.{Memo
 
 use std::alloc::{AllocError, AllocFailed};
 use std::io::{self, ErrorKind};
-use thiserror::Error;
 pub use written::{write_bundle, write_contents, write_reading};
-
-/// Why a folder became no bundle.
-#[derive(Clone, Copy, Debug, PartialEq, Eq, Hash, Error)]
-pub enum Fault {
-    /// Something in the folder can't be read, or is missing, or is too much.
-    #[error("read fault")]
-    Read,
-    /// What was read gives no bundle.
-    #[error("not a bundle")]
-    NotABundle,
-    /// The writer answered an error, or took nothing.
-    #[error("write fault")]
-    Write,
-    /// A growth of memory was refused.
-    #[error("out of memory")]
-    Memory,
-}
 
 /// Why a folder wasn't read.
 #[derive(Clone, Copy, Debug, PartialEq, Eq, Hash)]

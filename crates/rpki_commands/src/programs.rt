@@ -1,50 +1,15 @@
 //! The program `rpki_check`, over any files, reader and writers: what its arguments ask for is done. It answers the exit status.
 
 ghost use Rattle.std.specs.Prelude.{◌≡◌, ◌⊎◌, ◌<◌, ◌-◌, ◌^◌};
-ghost use Rattle.rpki_commands.specs.Programs.{Does, DoesAsked, Fails, FailsAsked};
+ghost use Rattle.rpki_commands.specs.Programs.{DoesAsked, FailsAsked};
 
 use crate::arguments::{self, Command, command_of};
 use crate::commands::{FAILED, bundle, check};
 use rpki_validator::Counted;
-use rpki_validator::programs::tell_unread;
+use rpki_validator::programs::{tell_unread, tell_usage};
 use std::alloc::Global;
 use std::io::{self, Read, Write};
 use std::rt::Files;
-
-// What the arguments ask for, if anything; else it is said how the program is used.
-fn do_command<R: Files + AllocGlobal + Clone + Drop, I: Read, W: Write, F: Write>(
-    rt: &R,
-    alloc: Global,
-    command: Option<Command<'_>>,
-    reader: &mut Counted<I>,
-    writer: &mut Counted<W>,
-    faults: &mut F,
-) -> u8
-    requires few_reads { reader.old.failures < 2 ^ 64 - 1 }
-    requires few_writes { writer.old.failures < 2 ^ 64 - 1 }
-
-    ensures status { (result ≡ 0) ⊎ (result ≡ 1) }
-    ensures done { result ≡ 0 → Does command.entry
-        (I.remaining reader.old.inner) (I.remaining reader.new.inner)
-        (W.contents writer.old.inner) (W.contents writer.new.inner)
-        (record { before = reader.old.failures; after = reader.new.failures })
-        (record { before = writer.old.failures; after = writer.new.failures }) }
-    ensures failed { result ≡ 1 → Fails command.entry
-        (I.remaining reader.old.inner) (I.remaining reader.new.inner)
-        (W.contents writer.old.inner) (W.contents writer.new.inner)
-        (record { before = reader.old.failures; after = reader.new.failures })
-        (record { before = writer.old.failures; after = writer.new.failures }) }
-{
-    match command {
-        Some(Command::Check) => check(alloc, reader, writer, faults),
-        Some(Command::Bundle(folder)) => bundle(rt, alloc, folder, writer, faults),
-        None => {
-            // What can't be written is lost; the status says that there was something.
-            let _ = faults.write_all(arguments::USAGE.as_bytes());
-            FAILED
-        }
-    }
-}
 
 /// `rpki_check`: does what the arguments ask for, the first of which is the program's name, and writes what is at fault to
 /// `faults`. Its exit status is 0 where all was done, and 1 where something was at fault, where the arguments ask for
@@ -73,10 +38,14 @@ pub fn check_program<R: Files + AllocGlobal + Clone + Drop, I: Read, W: Write, F
         (record { before = writer.old.failures; after = writer.new.failures }) }
 {
     match arguments {
-        Ok(words) => {
-            let command = command_of(words.as_slice());
-            do_command(rt, alloc, command, reader, writer, faults)
-        }
+        Ok(words) => match command_of(words.as_slice()) {
+            Some(Command::Check) => check(alloc, reader, writer, faults),
+            Some(Command::Bundle(folder)) => bundle(rt, alloc, folder, writer, faults),
+            None => {
+                tell_usage(arguments::USAGE, faults);
+                FAILED
+            }
+        },
         Err(error) => {
             tell_unread(error, arguments::USAGE, faults);
             FAILED

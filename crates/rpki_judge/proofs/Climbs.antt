@@ -97,14 +97,6 @@ of_two P lower upper rest f a (c ∷ ds) e =
     subst (λ (l : Link). P a (l ∷ ds)) q (f a ds z (first_is a upper ds rest z))
 
 module _ (w : World) (name : List ℕ) where
-  pub up_empty : (need : Resources) (points : ℕ) → points ≡ 0 → IsJudgedUp w name [] need (record { yes = false; points = points })
-  up_empty need points z = record {
-    right = λ a cs e. absurd (none_is a cs e);
-    reads = λ a cs e. absurd (none_is a cs e);
-    bounded = omega arith;
-    all = λ t. let h : false ≡ true = t in absurd cc;
-  }
-
   pub up_anchor : (anchor : Link) (need : Resources) (says : Bool) → IsTrue says ↔ Climbs w name anchor [] (InSet need) → IsJudgedUp w name (anchor ∷ []) need (record { yes = says; points = 0 })
   up_anchor anchor need says h = record {
     right = at;
@@ -204,15 +196,6 @@ module _ (w : World) (name : List ℕ) where
             (subst (λ (y : Payload). Climbs w name a cs (NeedAt o.cert k.point (Needs y))) e.1
             (subst (λ (q : Object). Climbs w name a cs (NeedAt q.cert k.point (Needs k.payload))) e.0 k.climbs)))),
       )
-
-  pub at_empty : (uri : List ℕ) → IsJudgedAt w name [] uri (record { yes = false; points = 0 })
-  at_empty uri = record {
-    right = λ a cs e. absurd (none_is a cs e);
-    reads = λ a cs e. absurd (none_is a cs e);
-    some = λ t. let h : false ≡ true = t in absurd cc;
-    bounded = omega arith;
-    all = λ t. let h : false ≡ true = t in absurd cc;
-  }
 
   pub at_some : (last : Link) (rest : List Link) (uri : List ℕ) (p : Point) (o : Object) (x : Payload) (need : Resources) → IsPoint w last.cert p → IsSigned w last.cert p uri o x → KeepsNeed o.cert (Needs x) → IsNeed (NeedAt o.cert p (Needs x)) need → (j : Judgement) → IsJudgedUp w name (last ∷ rest) need j → IsJudgedAt w name (last ∷ rest) uri (record { yes = j.yes; points = j.points + 1 })
   at_some last rest uri p o x need ip signed kept sets j h = record {

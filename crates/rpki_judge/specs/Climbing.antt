@@ -38,29 +38,39 @@ places_of (l ∷ ls) = places_of ls ++ l.uri ∷ []
 
 -- Links of those keys are added, or there is none at one of them.
 abbrev pub IsReadChain : World → List (List ℕ) → List Link → List Link → Bool → Type 0
-IsReadChain w chain old new true = (read : List Link) × (new ≡ old ++ read) × (places_of read ≡ chain) × AreAt w read
-IsReadChain w chain old new false = (uri : List ℕ) × Mem chain uri × ((c : Cert) → ¬ (CertAt w uri c))
+IsReadChain w chain old new true =
+    (read : List Link) × (new ≡ old ++ read) × (places_of read ≡ chain) × AreAt w read
+IsReadChain w chain old new false =
+    (uri : List ℕ) × Mem chain uri × ((c : Cert) → ¬ (CertAt w uri c))
 
 -- At that point the certificate is below the authority, and this is then needed of the authority; or it isn't below.
 abbrev pub IsRaised : World → Cert → Point → Link → Resources → Option Resources → Type 0
-IsRaised w ca p l need (Some higher) = IsBelow w ca p l.uri l.cert × IsNeed (NeedAt l.cert p (InSet need)) higher
+IsRaised w ca p l need (Some higher) =
+    IsBelow w ca p l.uri l.cert × IsNeed (NeedAt l.cert p (InSet need)) higher
 IsRaised w ca p l need None = ¬ (IsBelow w ca p l.uri l.cert)
 
 -- What the object at a file of the point needs of the authority, where its certificate keeps it; or there is none.
 abbrev pub IsNeedOfFile : World → Cert → Point → List ℕ → Option Resources → Type 0
-IsNeedOfFile w ca p uri (Some higher) = (o : Object) × (x : Payload) × IsSigned w ca p uri o x × KeepsNeed o.cert (Needs x) × IsNeed (NeedAt o.cert p (Needs x)) higher
-IsNeedOfFile w ca p uri None = (o : Object) (x : Payload) → IsSigned w ca p uri o x → ¬ (KeepsNeed o.cert (Needs x))
+IsNeedOfFile w ca p uri (Some higher) =
+    (o : Object) × (x : Payload) × IsSigned w ca p uri o x × KeepsNeed o.cert (Needs x)
+    × IsNeed (NeedAt o.cert p (Needs x)) higher
+IsNeedOfFile w ca p uri None =
+    (o : Object) (x : Payload) → IsSigned w ca p uri o x → ¬ (KeepsNeed o.cert (Needs x))
 
 -- Yes exactly where the links, the last first, climb with the need; the points that are read above the last's, and on yes
 -- all but that.
-pub record IsJudgedUp (w : World) (name : List ℕ) (links : List Link) (need : Resources) (j : Judgement) : Type 0 where
-  pub right : (a : Link) (cs : List Link) → links ≡ cs ++ a ∷ [] → IsTrue j.yes ↔ Climbs w name a cs (InSet need)
-  pub reads : (a : Link) (cs : List Link) → links ≡ cs ++ a ∷ [] → ReadsAbove w a cs (InSet need) j.points
+pub record IsJudgedUp (w : World) (name : List ℕ) (links : List Link) (need : Resources)
+    (j : Judgement) : Type 0 where
+  pub right : (a : Link) (cs : List Link) → links ≡ cs ++ a ∷ []
+      → IsTrue j.yes ↔ Climbs w name a cs (InSet need)
+  pub reads : (a : Link) (cs : List Link) → links ≡ cs ++ a ∷ []
+      → ReadsAbove w a cs (InSet need) j.points
   pub bounded : j.points ≤ length links - 1
   pub all : IsTrue j.yes → j.points + 1 ≡ length links
 
 -- An object that is read at the end of the chain, from which the chain climbs.
-pub record ClimbedOn (w : World) (name : List ℕ) (a : Link) (cs : List Link) (uri : List ℕ) : Type 0 where
+pub record ClimbedOn (w : World) (name : List ℕ) (a : Link) (cs : List Link) (uri : List ℕ)
+    : Type 0 where
   pub payload : Payload
   pub point : Point
   pub is_point : IsPoint w (last_of a cs).cert point
@@ -70,8 +80,10 @@ pub record ClimbedOn (w : World) (name : List ℕ) (a : Link) (cs : List Link) (
   pub climbs : Climbs w name a cs (NeedAt object.cert point (Needs payload))
 
 -- Yes exactly where there is such an object; the points that are read, and on yes all the chain's.
-pub record IsJudgedAt (w : World) (name : List ℕ) (links : List Link) (uri : List ℕ) (j : Judgement) : Type 0 where
-  pub right : (a : Link) (cs : List Link) → links ≡ cs ++ a ∷ [] → IsTrue j.yes ↔ ClimbedOn w name a cs uri
+pub record IsJudgedAt (w : World) (name : List ℕ) (links : List Link) (uri : List ℕ) (j : Judgement)
+    : Type 0 where
+  pub right : (a : Link) (cs : List Link) → links ≡ cs ++ a ∷ []
+      → IsTrue j.yes ↔ ClimbedOn w name a cs uri
   pub reads : (a : Link) (cs : List Link) → links ≡ cs ++ a ∷ [] → ReadsFrom w a cs uri j.points
   pub some : IsTrue j.yes → 1 ≤ length links
   pub bounded : j.points ≤ length links

@@ -17,7 +17,8 @@ HasNoPoint w ca = (p : Point) → ¬ (IsPoint w ca p)
 
 -- No object at the file of the point is sound there and has a certificate that keeps what it needs.
 abbrev pub NoneIsKept : World → Cert → Point → List ℕ → Type 0
-NoneIsKept w ca p uri = (o : Object) (x : Payload) → IsSigned w ca p uri o x → ¬ (KeepsNeed o.cert (Needs x))
+NoneIsKept w ca p uri =
+    (o : Object) (x : Payload) → IsSigned w ca p uri o x → ¬ (KeepsNeed o.cert (Needs x))
 
 -- With that need of the last certificate, so many points are read above its own: none where it doesn't keep the need, or
 -- where the authority above has no point; that point alone where the certificate isn't sound there; else that point, and
@@ -38,7 +39,8 @@ ReadsFrom w a cs uri count =
     ((count ≡ 0) × HasNoPoint w (last_of a cs).cert)
     ⊎ ((p : Point) × IsPoint w (last_of a cs).cert p
     × (((count ≡ 1) × NoneIsKept w (last_of a cs).cert p uri)
-    ⊎ ((o : Object) × (x : Payload) × IsSigned w (last_of a cs).cert p uri o x × KeepsNeed o.cert (Needs x)
+    ⊎ ((o : Object) × (x : Payload) × IsSigned w (last_of a cs).cert p uri o x
+    × KeepsNeed o.cert (Needs x)
     × (above : ℕ) × (count ≡ above + 1) × ReadsAbove w a cs (NeedAt o.cert p (Needs x)) above)))
 
 -- The certificates that stand at a chain's lookup keys: no key of theirs occurs twice, and they are no more than may be.

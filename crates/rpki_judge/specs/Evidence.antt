@@ -23,6 +23,8 @@ pub record IsBelow (w : World) (ca : Cert) (p : Point) (uri : List ℕ) (c : Cer
   pub sound : IsSound w ca p c
 
 -- The object at a file of the point that is sound there, its claim apart.
-abbrev pub IsReadObject : {O : Type 0} → (O → Object) → (O → Payload) → World → Cert → Point → List ℕ → Option O → Type 0
+abbrev pub IsReadObject : {O : Type 0} → (O → Object) → (O → Payload) → World → Cert → Point
+    → List ℕ → Option O → Type 0
 IsReadObject object payload w ca p uri (Some o) = IsSigned w ca p uri (object o) (payload o)
-IsReadObject object payload w ca p uri None = (o : Object) (x : Payload) → ¬ (IsSigned w ca p uri o x)
+IsReadObject object payload w ca p uri None =
+    (o : Object) (x : Payload) → ¬ (IsSigned w ca p uri o x)

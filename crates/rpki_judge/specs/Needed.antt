@@ -24,12 +24,16 @@ pub record AreClaims (c : Cert) (claims : Claims) : Type 0 where
 -- Each number that is needed is listed.
 abbrev pub ListsAll : Claims → Resources → Type 0
 ListsAll c need =
-    ((n : ℕ) → InRuns need.asn n → Lists c.asn.now n) × ((n : ℕ) → InRuns need.ipv4 n → Lists c.v4.now n) × ((n : ℕ) → InRuns need.ipv6 n → Lists c.v6.now n)
+    ((n : ℕ) → InRuns need.asn n → Lists c.asn.now n)
+    × ((n : ℕ) → InRuns need.ipv4 n → Lists c.v4.now n)
+    × ((n : ℕ) → InRuns need.ipv6 n → Lists c.v6.now n)
 
 -- Each number that is needed is listed, or its kind is inherited.
 abbrev pub KeepsAll : Claims → Resources → Type 0
 KeepsAll c need =
-    ((n : ℕ) → InRuns need.asn n → Keeps c.asn.now n) × ((n : ℕ) → InRuns need.ipv4 n → Keeps c.v4.now n) × ((n : ℕ) → InRuns need.ipv6 n → Keeps c.v6.now n)
+    ((n : ℕ) → InRuns need.asn n → Keeps c.asn.now n)
+    × ((n : ℕ) → InRuns need.ipv4 n → Keeps c.v4.now n)
+    × ((n : ℕ) → InRuns need.ipv6 n → Keeps c.v6.now n)
 
 -- In each kind the set has the numbers that P holds of.
 abbrev pub IsNeed : (Kind → ℕ → Type 0) → Resources → Type 0
@@ -37,4 +41,5 @@ IsNeed P need = (k : Kind) → IsRunsOf (P k) (of_kind need k)
 
 -- What is needed above a certificate, at whose issuer's point the manifest's certificate claims so much.
 abbrev pub IsNeedAt : Claims → Claims → Resources → Resources → Type 0
-IsNeedAt c m need = IsNeed (λ k. NeedWith m.policy (claimed m k) (NeedAbove c.policy (claimed c k) (InSet need k)))
+IsNeedAt c m need =
+    IsNeed (λ k. NeedWith m.policy (claimed m k) (NeedAbove c.policy (claimed c k) (InSet need k)))

@@ -1,17 +1,19 @@
 -- What is printed of the facts about a name or a URI: a line each, or one JSON object.
-use Rattle.std.specs.Prelude.{◌≡◌, ℕ, Bool, true, false, ◌||◌, List, [], ◌∷◌, ◌++◌, bytes_eq, codes, filter, flat_map}
+use Rattle.std.specs.Prelude.{◌≡◌, ℕ, Bool, true, false, ◌||◌, List, [], ◌∷◌, ◌++◌, bytes_eq, codes, filter, flat_map, map}
 use Rattle.std.specs.List.{list_any}
 use Rattle.rpki_questions.specs.certs_basics.Uris.{lookup_key}
 use Rattle.rpki_validator.specs.rpki_rules.Attests.{WitnessValue}
 use Rattle.rpki_validator.specs.rpki_rules.Report.{ReportValue, IsReport}
-use Rattle.rpki_validator.specs.rpki_rules.Views.{PathValue}
+use Rattle.rpki_validator.specs.rpki_rules.Views.{PathValue, path_of}
 use Rattle.rpki_validator.specs.rpki_rules.World.{World}
 use Rattle.rpki_validator.specs.rpki_walk.Chained.{AreNamingChains}
 use Rattle.rpki_validator.specs.rpki_walk.Diagnosed.{ToldValue}
 use Rattle.rpki_questions.specs.Chained.{path_members, path_text}
 use Rattle.rpki_reasons.specs.Json.{json_array, json_string}
 use Rattle.rpki_questions.specs.Lists.{is_some_list}
+use Rattle.rpki_questions.specs.Orders.{refused_of}
 use Rattle.rpki_questions.specs.Refused.{AreRefused, refused_line, refused_object}
+use Rattle.rpki_questions.specs.declared.telling.Found.{Found}
 
 -- What is good by which chain, and which chain names a URI.
 abbrev pub good_line : WitnessValue → List ℕ
@@ -48,6 +50,12 @@ facts_about name refused r paths = record {
   witnesses = filter (has_key (lookup_key name)) r.witnesses;
   paths = paths;
 }
+
+-- Those in what was found for a name or a URI.
+abbrev pub facts_in : Found → Facts
+facts_in f =
+    facts_about f.name.now (map refused_of f.refused.now) f.report.now
+    (map (λ path. path_of path.value) f.chains.now)
 
 abbrev pub facts_text : Bool → Facts → List ℕ
 facts_text false f =

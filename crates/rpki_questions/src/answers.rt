@@ -7,7 +7,7 @@ ghost use Rattle.rpki_questions.specs.Answers.{IsAnswer};
 ghost use Rattle.rpki_questions.specs.Requests.{asked_of};
 
 use crate::costs::costed;
-use crate::judging::judged;
+use crate::judging::{asked_witness, judged};
 use crate::reaching::reached;
 use crate::refusals::told_refusals;
 use crate::requests::{Question, Request};
@@ -40,7 +40,10 @@ pub(crate) fn answer_to(
             object,
             anchor,
             below,
-        } => judged(alloc, bundle, locator, object, anchor, below, json),
+        } => {
+            let witness = asked_witness(alloc, locator, object, anchor, below)?;
+            judged(alloc, bundle, &witness, json)
+        }
         Question::Reach { uris } => reached(alloc, bundle, uris, json),
         Question::Why { uri } => told(alloc, bundle, uri, json),
         Question::Refusals => told_refusals(alloc, bundle, json),

@@ -7,7 +7,6 @@ ghost use Rattle.rpki_questions.specs.Requests.{asked_of};
 
 use crate::answers::answer_to;
 use crate::requests::Request;
-use rpki_validator::laws::bundle_length;
 use rpki_validator::{Counted, RunError, read_bundle, write_all};
 use std::alloc::Global;
 use std::io::{Read, Write};
@@ -42,16 +41,8 @@ fn ask_all<R: Read, W: Write>(
     ensures reads { CountsReads result reader.old.failures reader.new.failures }
     ensures writes { CountsWrites result writer.old.failures writer.new.failures }
 {
-    // So a bundle that was read has fewer octets than where reading stops.
-    bundle_length();
-    let bundle = match read_bundle(alloc, reader) {
-        Ok(bundle) => bundle,
-        Err(error) => return Err(error),
-    };
-    let answer = match answer_to(alloc, &bundle, request) {
-        Ok(answer) => answer,
-        Err(_) => return Err(RunError::Memory),
-    };
+    let bundle = read_bundle(alloc, reader)?;
+    let answer = answer_to(alloc, &bundle, request)?;
     match write_all(writer, answer.text.as_slice()) {
         Ok(()) => Ok(answer.yes),
         Err(_) => Err(RunError::Write),

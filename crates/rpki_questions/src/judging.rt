@@ -52,8 +52,24 @@ fn asked_path(
     Ok(path)
 }
 
-// Whether the object is good by the chain, and how many points were read for that.
-fn judge_witness(
+/// The witness of the object at that URI by the locator of that name and by the chain of certificates at these URIs.
+pub(crate) fn asked_witness(
+    alloc: Global,
+    locator: &str,
+    object: &str,
+    anchor: &str,
+    below: &[String],
+) -> Result<Witness, AllocError>
+    ensures { IfOk result (λ witness. witness_of witness
+        ≡ witness_asked locator.now object.now (anchor.now ∷ map string_bytes below.now)) }
+{
+    let path = asked_path(alloc, locator, anchor, below)?;
+    let path = Rc::new(alloc, path)?;
+    Ok(Witness::new(path, key_of(alloc, object)?))
+}
+
+/// Whether the witness's object is good by its chain, and how many publication points were read for that; a yes where it is.
+pub(crate) fn judged(
     alloc: Global,
     bundle: &Bundle,
     witness: &Witness,
@@ -69,39 +85,4 @@ fn judge_witness(
         text: text.into_bytes(),
         yes: judgement.yes,
     })
-}
-
-// The witness of that object by that chain.
-fn asked_witness(
-    alloc: Global,
-    locator: &str,
-    object: &str,
-    anchor: &str,
-    below: &[String],
-) -> Result<Witness, AllocError>
-    ensures { IfOk result (λ witness. witness_of witness
-        ≡ witness_asked locator.now object.now (anchor.now ∷ map string_bytes below.now)) }
-{
-    let path = asked_path(alloc, locator, anchor, below)?;
-    let path = Rc::new(alloc, path)?;
-    Ok(Witness::new(path, key_of(alloc, object)?))
-}
-
-/// Whether the object at that URI is good by the locator of that name and by the chain of certificates at these URIs; a yes
-/// where it is.
-pub(crate) fn judged(
-    alloc: Global,
-    bundle: &Bundle,
-    locator: &str,
-    object: &str,
-    anchor: &str,
-    below: &[String],
-    json: bool,
-) -> Result<Answer, AllocError>
-    ensures { IfOk result (λ answer. Judges (run_world fips bundle.now) json
-        (witness_asked locator.now object.now (anchor.now ∷ map string_bytes below.now))
-        answer.yes answer.text.items) }
-{
-    let witness = asked_witness(alloc, locator, object, anchor, below)?;
-    judge_witness(alloc, bundle, &witness, json)
 }

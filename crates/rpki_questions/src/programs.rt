@@ -6,15 +6,9 @@ ghost use Rattle.rpki_questions.specs.Programs.{AnswersAsked, LeavesAsked};
 use crate::asking::{FAULT, ask};
 use crate::requests::{self, request_of};
 use rpki_validator::Counted;
-use rpki_validator::programs::tell_unread;
+use rpki_validator::programs::{tell_unread, tell_usage};
 use std::alloc::Global;
 use std::io::{self, Read, Write};
-
-// Says how the program is used, where its arguments ask nothing.
-fn tell_usage<F: Write>(faults: &mut F) {
-    // What can't be written is lost; the status says that there was something.
-    let _ = faults.write_all(requests::USAGE.as_bytes());
-}
 
 /// `rpki_ask`: answers what the arguments ask, the first of which is the program's name, and writes what is at fault to
 /// `faults`. Its exit status is 0 for a yes, 1 for a no, and 2 where something was at fault, where the arguments ask nothing,
@@ -54,7 +48,7 @@ pub fn ask_program<I: Read, W: Write, F: Write>(
         }
     };
     let Some(request) = request_of(words.as_slice()) else {
-        tell_usage(faults);
+        tell_usage(requests::USAGE, faults);
         return FAULT;
     };
     ask(alloc, request, reader, writer, faults)

@@ -7,8 +7,7 @@ ghost use Rattle.rpki_validator.specs.rpki_rules.Views.{path_of};
 ghost use Rattle.rpki_validator.specs.rpki_rules.World.{run_world};
 ghost use Rattle.rpki_validator.specs.rpki_walk.Chained.{AreNamingChains};
 ghost use Rattle.rpki_digests.specs.Fips.{fips};
-ghost use Rattle.rpki_questions.specs.Orders.{refused_of};
-ghost use Rattle.rpki_questions.specs.Told.{Tells, facts_about, facts_text as text_of_facts, is_some};
+ghost use Rattle.rpki_questions.specs.Told.{Tells, facts_in, facts_text as text_of_facts, is_some};
 
 use crate::answers::Answer;
 use crate::facts::{has_any, push_fact_array, push_facts};
@@ -20,71 +19,60 @@ use rpki_validator::{Bundle, Path, Report, TableVerifier, naming_chains, walk};
 use std::alloc::{AllocError, Global};
 use std::rc::Rc;
 
+// What is asked about, and what was found in the bundle: facts are what of that is about this.
+#[derive(Clone, Copy)]
+struct Found<'a> {
+    // The URI, or the locator's name.
+    name: &'a [u8],
+    // The lookup key of the URI.
+    key: &'a [u8],
+    // All that is refused.
+    refused: &'a [Refused],
+    // What is good, in a report.
+    report: &'a Report,
+    // The accepted chains that name the URI.
+    chains: &'a [Rc<Path>],
+}
+
 // The facts as lines.
-fn facts_lines(
-    alloc: Global,
-    refused: &[Refused],
-    report: &Report,
-    chains: &[Rc<Path>],
-    name: &[u8],
-    key: &[u8],
-) -> Result<Vec<u8>, AllocError>
-    requires { key.now ≡ key_of_uri name.now }
-    ensures { IfOk result (λ text. text.items ≡ text_of_facts false
-        (facts_about name.now (map refused_of refused.now) report.now
-        (map (λ path. path_of path.value) chains.now))) }
+fn facts_lines(alloc: Global, found: &Found<'_>) -> Result<Vec<u8>, AllocError>
+    requires { found.now.key.now ≡ key_of_uri found.now.name.now }
+    ensures { IfOk result (λ text. text.items ≡ text_of_facts false (facts_in found.now)) }
 {
+    let (name, key) = (found.name, found.key);
     let mut text = Vec::new(alloc);
-    push_facts(alloc, &mut text, refused, name, key, false)?;
-    push_facts(alloc, &mut text, report.witnesses(), name, key, false)?;
-    push_facts(alloc, &mut text, chains, name, key, false)?;
+    push_facts(alloc, &mut text, found.refused, name, key, false)?;
+    push_facts(alloc, &mut text, found.report.witnesses(), name, key, false)?;
+    push_facts(alloc, &mut text, found.chains, name, key, false)?;
     Ok(text)
 }
 
 // The facts as one JSON object.
-fn facts_object(
-    alloc: Global,
-    refused: &[Refused],
-    report: &Report,
-    chains: &[Rc<Path>],
-    name: &[u8],
-    key: &[u8],
-) -> Result<Vec<u8>, AllocError>
-    requires { key.now ≡ key_of_uri name.now }
-    ensures { IfOk result (λ text. text.items ≡ text_of_facts true
-        (facts_about name.now (map refused_of refused.now) report.now
-        (map (λ path. path_of path.value) chains.now))) }
+fn facts_object(alloc: Global, found: &Found<'_>) -> Result<Vec<u8>, AllocError>
+    requires { found.now.key.now ≡ key_of_uri found.now.name.now }
+    ensures { IfOk result (λ text. text.items ≡ text_of_facts true (facts_in found.now)) }
 {
+    let (name, key) = (found.name, found.key);
     let mut text = Vec::new(alloc);
     text.extend_from_slice(b"{\"refused\":")?;
-    push_fact_array(alloc, &mut text, refused, name, key)?;
+    push_fact_array(alloc, &mut text, found.refused, name, key)?;
     text.extend_from_slice(b",\"good\":")?;
-    push_fact_array(alloc, &mut text, report.witnesses(), name, key)?;
+    push_fact_array(alloc, &mut text, found.report.witnesses(), name, key)?;
     text.extend_from_slice(b",\"chains\":")?;
-    push_fact_array(alloc, &mut text, chains, name, key)?;
+    push_fact_array(alloc, &mut text, found.chains, name, key)?;
     text.extend_from_slice(b"}\n")?;
     Ok(text)
 }
 
 // The facts as a text.
-fn facts_text(
-    alloc: Global,
-    refused: &[Refused],
-    report: &Report,
-    chains: &[Rc<Path>],
-    name: &[u8],
-    key: &[u8],
-    json: bool,
-) -> Result<Vec<u8>, AllocError>
-    requires { key.now ≡ key_of_uri name.now }
-    ensures { IfOk result (λ text. text.items ≡ text_of_facts json
-        (facts_about name.now (map refused_of refused.now) report.now
-        (map (λ path. path_of path.value) chains.now))) }
+fn facts_text(alloc: Global, found: &Found<'_>, json: bool) -> Result<Vec<u8>, AllocError>
+    requires { found.now.key.now ≡ key_of_uri found.now.name.now }
+    ensures { IfOk result (λ text. text.items ≡ text_of_facts json (facts_in found.now)) }
 {
     if json {
-        facts_object(alloc, refused, report, chains, name, key)
+        facts_object(alloc, found)
     } else {
-        facts_lines(alloc, refused, report, chains, name, key)
+        facts_lines(alloc, found)
     }
 }
 
@@ -96,21 +84,13 @@ fn is_any(refused: bool, good: bool, named: bool) -> bool
 }
 
 // Whether there is a fact.
-fn has_fact(
-    refused: &[Refused],
-    report: &Report,
-    chains: &[Rc<Path>],
-    name: &[u8],
-    key: &[u8],
-) -> bool
-    requires { key.now ≡ key_of_uri name.now }
-    ensures { result ≡ is_some
-        (facts_about name.now (map refused_of refused.now) report.now
-        (map (λ path. path_of path.value) chains.now)) }
+fn has_fact(found: &Found<'_>) -> bool
+    requires { found.now.key.now ≡ key_of_uri found.now.name.now }
+    ensures { result ≡ is_some (facts_in found.now) }
 {
-    let refused = has_any(refused, name, key);
-    let good = has_any(report.witnesses(), name, key);
-    let named = has_any(chains, name, key);
+    let refused = has_any(found.refused, found.name, found.key);
+    let good = has_any(found.report.witnesses(), found.name, found.key);
+    let named = has_any(found.chains, found.name, found.key);
     is_any(refused, good, named)
 }
 
@@ -156,9 +136,14 @@ pub(crate) fn told(
     let report = report_of(alloc, bundle)?;
     let chains = chains_of(alloc, bundle, name)?;
     let key = key_of(alloc, name)?;
-    let (key, name, chains) = (key.as_slice(), name.as_bytes(), chains.as_slice());
-    let refused = refused.as_slice();
-    let text = facts_text(alloc, refused, &report, chains, name, key, json)?;
-    let yes = has_fact(refused, &report, chains, name, key);
+    let found = Found {
+        name: name.as_bytes(),
+        key: key.as_slice(),
+        refused: refused.as_slice(),
+        report: &report,
+        chains: chains.as_slice(),
+    };
+    let text = facts_text(alloc, &found, json)?;
+    let yes = has_fact(&found);
     Ok(Answer { text, yes })
 }

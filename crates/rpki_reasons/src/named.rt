@@ -1,13 +1,10 @@
 //! What a reason names: numbers that are claimed and aren't held, a file, a prefix, a customer.
 
-ghost use Rattle.std.specs.Prelude.{◌≡◌, ◌++◌, ◌∷◌, IfOk, OnOk, Some, codes, string_bytes};
+ghost use Rattle.std.specs.Prelude.{◌≡◌, ◌++◌, ◌∷◌, IfOk, OnOk, codes, string_bytes};
 ghost use Rattle.rpki_rules.specs.DiagnosisViews.{cer_numbers, file_numbers, list_numbers, numbers_of, object_numbers, point_numbers, reason_of};
-ghost use Rattle.rpki_rules.specs.Lines.{address_text, asn_text};
+ghost use Rattle.rpki_rules.specs.Lines.{asn_text};
 ghost use Rattle.rpki_rules.specs.ReasonViews.{cer_test_of, file_reason_of, kind_claimed, list_test_of, manifest_test_of, object_test_of, point_reason_of, runs_claimed};
 ghost use Rattle.rpki_rules.specs.Views.{kind_of};
-ghost use Rattle.rpki_rules.specs.resources_ip_prefix.Address.{bits_of};
-ghost use Rattle.rpki_rules.specs.resources_ip_prefix.Prefix.{prefix_addr, prefix_len};
-ghost use Rattle.rpki_rules.specs.resources_ip_prefix.Text.{slashed};
 ghost use Rattle.objects_payload.specs.Addresses.{roa_address};
 ghost use Rattle.rpki_reasons.specs.Json.{json_string};
 ghost use Rattle.rpki_reasons.specs.Reasons.{cer_names, file_names, list_names, manifest_names, named, names_numbers, numbers_text as text_of_numbers, object_names, point_names, prefix_text as text_of_prefix, reason_names};
@@ -18,29 +15,8 @@ use resources::IpBlocksForFamily;
 use rpki_rules::reason::{
     CerTest, FileReason, ListTest, ManifestTest, ObjectTest, Overclaimed, PointReason, Reason,
 };
-use rpki_rules::{AddressFamily, Asn, Prefix};
+use rpki_rules::{AddressFamily, Asn};
 use std::alloc::{AllocError, Global};
-use std::fmt;
-
-// A prefix with the family that says how it is written.
-#[derive(Clone, Copy)]
-struct FamilyPrefix {
-    family: AddressFamily,
-    prefix: Prefix,
-}
-
-impl fmt::Display for FamilyPrefix {
-    ghost output = { λ p. Some (slashed
-        (address_text (kind_of p.family) (bits_of (prefix_addr p.prefix)))
-        (prefix_len p.prefix)) };
-
-    fn fmt<W: fmt::Write>(&self, f: &mut fmt::Formatter<W>) -> fmt::Result {
-        match self.family {
-            AddressFamily::Ipv4 => self.prefix.fmt_v4(f),
-            AddressFamily::Ipv6 => self.prefix.fmt_v6(f),
-        }
-    }
-}
 
 // Appends a comma, and the key of a member.
 fn push_key(text: &mut Vec<u8>, key: &str) -> Result<(), AllocError>
@@ -115,11 +91,12 @@ fn prefix_text(
     ensures { IfOk result (λ text. string_bytes text
         ≡ text_of_prefix (kind_of family) (roa_address address)) }
 {
-    let prefix = FamilyPrefix {
-        family,
-        prefix: address.prefix(),
-    };
-    format!(in alloc; "{prefix}")
+    let prefix = address.prefix();
+    let (addr, len) = (prefix.addr(), prefix.addr_len());
+    match family {
+        AddressFamily::Ipv4 => format!(in alloc; "{}/{len}", addr.to_v4()),
+        AddressFamily::Ipv6 => format!(in alloc; "{}/{len}", addr.to_v6()),
+    }
 }
 
 // An AS number.

@@ -4,7 +4,7 @@ ghost use Rattle.std.specs.Prelude.{◌≡◌, ◌++◌, OnOk, codes};
 ghost use Rattle.rpki_rules.specs.DiagnosisViews.{reason_of};
 ghost use Rattle.rpki_rules.specs.ReasonViews.{cer_test_of, file_reason_of, list_test_of, manifest_test_of, object_test_of, point_reason_of};
 ghost use Rattle.rpki_reasons.specs.Faults.{either as either_of};
-ghost use Rattle.rpki_reasons.specs.Reasons.{anchor_fault as fault_of_anchor, cer_fault as fault_of_cer, file_text, list_text, locator_text, manifest_text, object_text, of_list as subject_of_list, of_manifest as subject_of_manifest, of_object as subject_of_object, overclaim as fault_of_claim, point_text, reason_text, revoked as fault_of_revoked, said, too_early as fault_too_early, too_late as fault_too_late, unreadable as fault_unreadable};
+ghost use Rattle.rpki_reasons.specs.Reasons.{anchor_fault as fault_of_anchor, cer_fault as fault_of_cer, file_text, list_text, locator_text, manifest_text, object_text, point_text, reason_text, said};
 
 use crate::faults::{cert_fault, content_fault, either, revocation_fault, text_fault};
 use rpki_rules::reason::{
@@ -12,6 +12,9 @@ use rpki_rules::reason::{
     PointReason, Reason,
 };
 use std::alloc::AllocError;
+
+// A word for programs, and words for people.
+type Words = (&'static str, &'static str);
 
 // What is wrong with what.
 #[derive(Clone, Copy)]
@@ -30,60 +33,30 @@ fn say(subject: &'static str, fault: &'static str) -> Said
     Said { subject, fault }
 }
 
-// The certificate in a manifest.
-fn of_manifest(json: bool) -> &'static str
-    ensures { result.now ≡ subject_of_manifest json }
-{
-    either(json, "manifest-certificate", "certificate of the manifest")
-}
+// With what something is wrong: the certificate in a manifest, that in another object, a revocation list.
+const OF_MANIFEST: Words = ("manifest-certificate", "certificate of the manifest");
 
-// The certificate in another object.
-fn of_object(json: bool) -> &'static str
-    ensures { result.now ≡ subject_of_object json }
-{
-    either(json, "object-certificate", "certificate of the object")
-}
+const OF_OBJECT: Words = ("object-certificate", "certificate of the object");
 
-// A revocation list.
-fn of_list(json: bool) -> &'static str
-    ensures { result.now ≡ subject_of_list json }
-{
-    either(json, "list", "revocation list")
-}
+const OF_LIST: Words = ("list", "revocation list");
 
-// That it doesn't read.
-fn unreadable(json: bool) -> &'static str
-    ensures { result.now ≡ fault_unreadable json }
-{
-    either(json, "unreadable", "unreadable")
-}
+// What is wrong in more than one place: that something doesn't read, is of a time to come or past, is revoked, or claims
+// what isn't held.
+const UNREADABLE: Words = ("unreadable", "unreadable");
 
-// That it is of a time to come.
-fn too_early(json: bool) -> &'static str
-    ensures { result.now ≡ fault_too_early json }
-{
-    either(json, "this-update", "this update is after the moment")
-}
+const TOO_EARLY: Words = ("this-update", "this update is after the moment");
 
-// That it is of a time that is past.
-fn too_late(json: bool) -> &'static str
-    ensures { result.now ≡ fault_too_late json }
-{
-    either(json, "next-update", "next update is before the moment")
-}
+const TOO_LATE: Words = ("next-update", "next update is before the moment");
 
-// That it is revoked.
-fn revoked(json: bool) -> &'static str
-    ensures { result.now ≡ fault_of_revoked json }
-{
-    either(json, "revoked", "revoked")
-}
+const REVOKED: Words = ("revoked", "revoked");
 
-// That it claims what isn't held.
-fn overclaim(json: bool) -> &'static str
-    ensures { result.now ≡ fault_of_claim json }
+const OVERCLAIM: Words = ("overclaim", "overclaims");
+
+// The one that is wanted.
+fn told(json: bool, texts: Words) -> &'static str
+    ensures { result.now ≡ either_of json texts.entry.0.now texts.entry.1.now }
 {
-    either(json, "overclaim", "overclaims")
+    either(json, texts.0, texts.1)
 }
 
 // What is wrong with an anchor.
@@ -117,9 +90,9 @@ fn manifest_said(json: bool, test: &ManifestTest) -> Said
         ≡ manifest_text json (manifest_test_of test.now) }
 {
     match test {
-        ManifestTest::ThisUpdate => say("manifest", too_early(json)),
-        ManifestTest::NextUpdate => say("manifest", too_late(json)),
-        ManifestTest::ManifestCert(test) => say(of_manifest(json), cert_fault(json, *test)),
+        ManifestTest::ThisUpdate => say("manifest", told(json, TOO_EARLY)),
+        ManifestTest::NextUpdate => say("manifest", told(json, TOO_LATE)),
+        ManifestTest::ManifestCert(test) => say(told(json, OF_MANIFEST), cert_fault(json, *test)),
         ManifestTest::ManifestContent(test) => say("manifest", content_fault(json, *test)),
         ManifestTest::Folder => say(
             "manifest",
@@ -132,7 +105,7 @@ fn manifest_said(json: bool, test: &ManifestTest) -> Said
         ManifestTest::FileHeld(_) => say("manifest", either(json, "file-missing", "missing file")),
         ManifestTest::FileHash(_) => say("manifest", either(json, "file-changed", "changed file")),
         ManifestTest::ListNamed => say(
-            of_manifest(json),
+            told(json, OF_MANIFEST),
             either(json, "list-unnamed", "names no revocation list"),
         ),
         ManifestTest::ListListed => say(
@@ -149,17 +122,17 @@ fn list_said(json: bool, test: &ListTest) -> Said
 {
     match test {
         ListTest::ListAuthority => say(
-            of_list(json),
+            told(json, OF_LIST),
             either(json, "other-authority", "of another authority"),
         ),
-        ListTest::ListThisUpdate => say(of_list(json), too_early(json)),
-        ListTest::ListNextUpdate => say(of_list(json), too_late(json)),
-        ListTest::NotOnList => say(of_manifest(json), revoked(json)),
+        ListTest::ListThisUpdate => say(told(json, OF_LIST), told(json, TOO_EARLY)),
+        ListTest::ListNextUpdate => say(told(json, OF_LIST), told(json, TOO_LATE)),
+        ListTest::NotOnList => say(told(json, OF_MANIFEST), told(json, REVOKED)),
         ListTest::ListSignature => say(
-            of_list(json),
+            told(json, OF_LIST),
             either(json, "bad-signature", "bad signature"),
         ),
-        ListTest::ManifestClaim(_) => say(of_manifest(json), overclaim(json)),
+        ListTest::ManifestClaim(_) => say(told(json, OF_MANIFEST), told(json, OVERCLAIM)),
     }
 }
 
@@ -170,9 +143,9 @@ fn point_said(json: bool, reason: &PointReason) -> Said
 {
     match reason {
         PointReason::NoManifest => say("manifest", either(json, "missing", "missing")),
-        PointReason::BadManifest => say("manifest", unreadable(json)),
+        PointReason::BadManifest => say("manifest", told(json, UNREADABLE)),
         PointReason::ManifestFails(test) => manifest_said(json, test),
-        PointReason::BadList => say(of_list(json), unreadable(json)),
+        PointReason::BadList => say(told(json, OF_LIST), told(json, UNREADABLE)),
         PointReason::ListFails(test) => list_said(json, test),
     }
 }
@@ -184,7 +157,7 @@ fn cer_fault(json: bool, test: &CerTest) -> &'static str
     match test {
         CerTest::CerRevocation(test) => revocation_fault(json, *test),
         CerTest::CerCert(test) => cert_fault(json, *test),
-        CerTest::CerClaim(_) => overclaim(json),
+        CerTest::CerClaim(_) => told(json, OVERCLAIM),
     }
 }
 
@@ -195,11 +168,11 @@ fn object_said(json: bool, test: &ObjectTest) -> Said
 {
     match test {
         ObjectTest::ObjectRevocation(test) => {
-            say(of_object(json), revocation_fault(json, *test))
+            say(told(json, OF_OBJECT), revocation_fault(json, *test))
         }
-        ObjectTest::ObjectCert(test) => say(of_object(json), cert_fault(json, *test)),
+        ObjectTest::ObjectCert(test) => say(told(json, OF_OBJECT), cert_fault(json, *test)),
         ObjectTest::ObjectContent(test) => say("object", content_fault(json, *test)),
-        ObjectTest::ObjectClaim(_) => say(of_object(json), overclaim(json)),
+        ObjectTest::ObjectClaim(_) => say(told(json, OF_OBJECT), told(json, OVERCLAIM)),
         ObjectTest::PrefixHeld(_, _) => say(
             "object",
             either(json, "unheld-prefix", "unheld prefix"),
@@ -217,7 +190,7 @@ fn file_said(json: bool, reason: &FileReason) -> Said
         ≡ file_text json (file_reason_of reason.now) }
 {
     match reason {
-        FileReason::BadCer => say("certificate", unreadable(json)),
+        FileReason::BadCer => say("certificate", told(json, UNREADABLE)),
         FileReason::CerFails(test) => say("certificate", cer_fault(json, test)),
         FileReason::Loop => say(
             "certificate",
@@ -231,7 +204,7 @@ fn file_said(json: bool, reason: &FileReason) -> Said
                 "the chain has as many certificates as it may",
             ),
         ),
-        FileReason::BadObject => say("object", unreadable(json)),
+        FileReason::BadObject => say("object", told(json, UNREADABLE)),
         FileReason::ObjectFails(test) => object_said(json, test),
     }
 }

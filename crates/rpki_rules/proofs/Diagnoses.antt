@@ -1,6 +1,5 @@
 -- A world has one diagnosis at most of what has a name on a chain.
-use Rattle.std.proofs.Common.{◌≡◌, ◌≢◌, ◌↔◌, ◌⊎◌, ℕ, List, [], ◌∷◌, ◌++◌, map, length, refl, sym, ap, subst, ◌∙◌, inl, inr}
-use Rattle.std.specs.declared.cmp.Ordering.{Ordering}
+use Rattle.std.proofs.Common.{◌≡◌, ◌↔◌, ℕ, List, [], ◌∷◌, ◌++◌, map, length, refl, sym, ap, subst, ◌∙◌, inl, inr}
 use Rattle.std.specs.declared.cmp.Ordering.TheVariants.{Equal}
 use Rattle.std.specs.Ordering.{nat_cmp}
 use Rattle.std.specs.Cmp.Lexicographic.{slice_cmp}
@@ -17,7 +16,7 @@ use Rattle.rpki_rules.specs.Points.{Link, Anchor, Point}
 use Rattle.rpki_rules.specs.Chains.{last_of, places, keys, Holds, CertAt, Descends}
 use Rattle.rpki_rules.specs.Attests.{Payload}
 use Rattle.rpki_rules.specs.Views.{PathValue}
-use Rattle.rpki_rules.specs.LocatorReasons.{LocatorReason, LocatorFails}
+use Rattle.rpki_rules.specs.LocatorReasons.{LocatorFails}
 use Rattle.rpki_rules.specs.PointReasons.{ListTest, ListAuthority, ListThisUpdate, ListNextUpdate, NotOnList, ListSignature, ManifestClaim, HasManifest, PointReason, NoManifest, BadManifest, ManifestFails, BadList, ListFails, PointFails}
 use Rattle.rpki_rules.specs.FileReasons.{CerTest, CerRevocation, CerCert, CerClaim, ObjectTest, ObjectRevocation, ObjectCert, ObjectContent, ObjectClaim, PrefixHeld, CustomerHeld, HasPayload, FileReason, BadCer, CerFails, Loop, Depth, BadObject, ObjectFails, FileFails}
 use Rattle.rpki_rules.specs.Diagnoses.{OfLocator, OfPoint, OfFile, DiagnosisValue, diagnosis_cmp, ListTells, PointTells, CerTells, ObjectTells, FileTells, on_chain, DiagnosesLocator, DiagnosesPoint, DiagnosesFile, DiagnosesEnd, DiagnosesChain, IsDiagnosis, IsTold}

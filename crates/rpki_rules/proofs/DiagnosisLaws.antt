@@ -1,20 +1,18 @@
 -- What is refused and what is diagnosed are the same.
-use Rattle.std.proofs.Common.{◌≡◌, ◌⊎◌, ◌↔◌, ◌+◌, ℕ, List, [], ◌∷◌, map, length, inl, inr, refl, sym, ap, subst, ◌∙◌}
+use Rattle.std.proofs.Common.{◌≡◌, ◌⊎◌, ℕ, List, [], ◌∷◌, map, inl, inr, refl, sym, ap, subst}
 use Rattle.rpki_rules.specs.rpki_bundle.declared.parts.Locator.{Locator}
 use Rattle.rpki_rules.specs.declared.cause.Cause.{Cause}
 use Rattle.rpki_rules.specs.declared.cause.Cause.TheVariants as cause
-use Rattle.rpki_rules.specs.declared.reason.diagnosis.Diagnosis.{Diagnosis}
 use Rattle.rpki_rules.specs.Words.{Mem}
 use Rattle.rpki_rules.specs.World.{World}
-use Rattle.rpki_rules.specs.Points.{Link, Anchor, Point, files}
-use Rattle.rpki_rules.specs.Chains.{last_of, places, keys, Holds, Stands, Accepted}
+use Rattle.rpki_rules.specs.Points.{Link, Anchor, Point}
+use Rattle.rpki_rules.specs.Chains.{last_of, places, keys, Holds}
 use Rattle.rpki_rules.specs.Lines.{cause_text, Refusal}
-use Rattle.rpki_rules.specs.Refused.{LocatorRefused, AnchorRefused, PointRefused, FileRefused, ChainRefuses, IsRefused}
-use Rattle.rpki_rules.specs.LocatorReasons.{LocatorReason, LocatorFails, locator_cause}
-use Rattle.rpki_rules.specs.PointReasons.{PointReason, PointFails}
-use Rattle.rpki_rules.specs.FileReasons.{FileReason, FileFails, file_cause}
+use Rattle.rpki_rules.specs.Refused.{PointRefused, FileRefused, IsRefused}
+use Rattle.rpki_rules.specs.LocatorReasons.{locator_cause}
+use Rattle.rpki_rules.specs.FileReasons.{FileFails, file_cause}
 use Rattle.rpki_rules.specs.ReasonLaws.{IsLocatorRefused, IsNamedAlone}
-use Rattle.rpki_rules.specs.Diagnoses.{OfLocator, OfPoint, OfFile, DiagnosisValue, cause_of, refusal_in, on_chain, DiagnosesLocator, DiagnosesEnd, DiagnosesChain, IsDiagnosis}
+use Rattle.rpki_rules.specs.Diagnoses.{OfLocator, OfPoint, OfFile, DiagnosisValue, cause_of, refusal_in, on_chain, DiagnosesLocator, DiagnosesChain, IsDiagnosis}
 use Rattle.rpki_rules.specs.DiagnosisViews.{diagnosis_of}
 use Rattle.rpki_rules.specs.DiagnosisLaws.{RefusalsAreDiagnosed}
 use Rattle.rpki_rules.proofs.Fronts.{keys_count}

@@ -1,5 +1,5 @@
 -- Tests in parts: the first that fails of a part is the first of the whole, where those of the parts before it are passed.
-use Rattle.std.proofs.Common.{◌≡◌, List, [], ◌∷◌, ◌++◌, map, flat_map, refl, sym, ap, ◌∙◌, append_assoc}
+use Rattle.std.proofs.Common.{List, [], ◌∷◌, ◌++◌, map, flat_map, refl, sym, ap, ◌∙◌, append_assoc}
 use Rattle.std.proofs.lemmas.List.{map-append}
 use Rattle.rpki_rules.specs.certs_basics.Lists.{Each, FirstFailing}
 use Rattle.rpki_rules.proofs.Firsts.{each_join, map_each}

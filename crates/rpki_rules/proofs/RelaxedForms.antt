@@ -5,7 +5,7 @@ use Rattle.bcder_tree.proofs.Modes.{all_to_ber, ber_header, to_ber}
 use Rattle.objects_payload.specs.bcder_tree.declared.mode.Mode.TheVariants.{Ber, Der}
 use Rattle.objects_payload.specs.bcder_tree.Tags.{TagValue}
 use Rattle.objects_payload.specs.bcder_tree.Tree.{Tree, Trees, IsConstructed, definite, indefinite}
-use Rattle.objects_payload.specs.bcder_content.Grammar.{As, Default, Inside, Many, ManyCases, OctetsOf, OneOf, Opt, OptCases, Such, Then}
+use Rattle.objects_payload.specs.bcder_content.Grammar.{As, Default, Inside, Many, ManyCases, OctetsOf, Opt, OptCases, Where, Then}
 use Rattle.objects_payload.specs.bcder_content.Words.{Gathers}
 use Rattle.objects_payload.specs.bcder_content.Texts.{InFront, InOrder, Joins, SpellsOf, WithOctets, Wraps}
 use Rattle.rpki_rules.specs.Forms.{Carries, Within}
@@ -21,21 +21,11 @@ inside_within v = record { carried = λ t x p. record { values = p.values; whole
 pub octets_within : {A : Type 0} {tag : TagValue} {P R : List ℕ → A → Type 0} → Within P R → Within (OctetsOf tag P) (OctetsOf tag R)
 octets_within v = record { carried = λ t x p. record { content = p.content; whole = p.whole; is = v.carried p.content x p.is } }
 
-pub such_within : {A : Type 0} {Q R : Tree → A → Type 0} {passes : A → Type 0} → Within Q R → Within (Such Q passes) (Such R passes)
+pub such_within : {A : Type 0} {Q R : Tree → A → Type 0} {passes : A → Type 0} → Within Q R → Within (Where Q passes) (Where R passes)
 such_within v = record { carried = λ t x p. record { is = v.carried t x p.is; meets = p.meets } }
 
 pub as_within : {A B : Type 0} {Q R : Tree → A → Type 0} {f : A → B} → Within Q R → Within (As Q f) (As R f)
 as_within v = record { carried = λ t y p. record { x = p.x; is = v.carried t p.x p.is; means = p.means } }
-
-pub one_of_within : {A : Type 0} {Q R S T : Tree → A → Type 0} → Within Q R → Within S T → Within (OneOf Q S) (OneOf R T)
-one_of_within v w = record {
-  carried = λ t x p. record {
-    cases = elim p.cases [
-      | inl q ↦ inl (v.carried t x q)
-      | inr q ↦ inr (w.carried t x q)
-    ];
-  };
-}
 
 pub then_within : {A B : Type 0} {Q R : Tree → A → Type 0} {P S : Trees → B → Type 0} → Within Q R → Within P S → Within (Then Q P) (Then R S)
 then_within v w = record {

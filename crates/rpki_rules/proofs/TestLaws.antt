@@ -1,25 +1,24 @@
 -- What tests ask together is what the rules ask, and a reason refutes what they rule.
 use Rattle.std.proofs.Common.{ℕ, ◌↔◌, List, subst}
 use Rattle.rpki_rules.specs.certs_basics.Lists.{Each}
-use Rattle.rpki_rules.specs.Certs.{Key, Cert, CertText}
+use Rattle.rpki_rules.specs.Certs.{Cert}
 use Rattle.rpki_rules.specs.Objects.{Object}
-use Rattle.rpki_rules.specs.Locators.{LocatorText, https_first}
 use Rattle.rpki_rules.specs.Words.{Mem}
 use Rattle.rpki_rules.specs.Kinds.{Kind}
 use Rattle.rpki_rules.specs.World.{World}
-use Rattle.rpki_rules.specs.Points.{IsFirstHeld, Point, files}
+use Rattle.rpki_rules.specs.Points.{Point, files}
 use Rattle.rpki_rules.specs.Chains.{Fits, StandsIn, IsChild}
 use Rattle.rpki_rules.specs.Attests.{Payload, IsGood}
 use Rattle.rpki_rules.specs.Refused.{IsFileRefused}
 use Rattle.rpki_rules.specs.Reasons.{kinds, FitsKind}
-use Rattle.rpki_rules.specs.PointReasons.{list_tests, PassesList, HasList, HasGoodManifest, PointReason, PointFails}
+use Rattle.rpki_rules.specs.PointReasons.{list_tests, PassesList, HasList, HasGoodManifest}
 use Rattle.rpki_rules.specs.LocatorReasons.{tests_of_anchors, PassesAnchor, LeadsTo, BadText, NoneHeld, NoCert, BadAnchor}
 use Rattle.rpki_rules.specs.FileReasons.{tests_of_cers, PassesCer, tests_of_objects, PassesObject, HasPayload, FileReason, FileFails, file_cause}
 use Rattle.rpki_rules.specs.TestLaws.{CertTestsAreRules, ContentTestsAreRules, RevocationTestsAreRules, AnchorTestsAreRules, LocatorReasonsRefuse}
 use Rattle.rpki_rules.proofs.Firsts.{none_fails}
 use Rattle.rpki_rules.proofs.ReasonTests.{cert_passes, passes_cert, content_passes, passes_content, kinds_fit, fit_kinds}
 use Rattle.rpki_rules.proofs.LocatorReasons.{anchor_passes, passes_anchor, nowhere, unread, moved, no_text}
-use Rattle.rpki_rules.proofs.PointReasons.{stands_of, good_in, list_in, passes_in, refutes}
+use Rattle.rpki_rules.proofs.PointReasons.{stands_of, good_in, list_in, passes_in}
 use Rattle.rpki_rules.proofs.FileReasons.{revocation_passes, passes_revocation, cer_passes, passes_cer, object_passes, passes_object, payload_of, same_payload, refuses_file}
 
 pub cert_tests_are_rules : CertTestsAreRules
@@ -53,9 +52,6 @@ point_tests_are_rules w held ca p = (
   λ h. stands_of w ca held p h.0 h.1 h.2,
   λ s. (good_in w ca held p s, list_in w ca held p s, passes_in w ca held p s),
 )
-
-pub point_reasons_refute : (w : World) (held : Kind → ℕ → Type 0) (ca : Cert) (r : PointReason) → PointFails w held ca r → (p : Point) → ¬ (StandsIn w held ca p)
-point_reasons_refute w held ca r f p s = refutes w ca held r f p s
 
 pub file_reasons_refuse : (w : World) (held : Kind → ℕ → Type 0) (on : List (List ℕ)) (count : ℕ) (ca : Cert) (p : Point) (uri : List ℕ) (r : FileReason) → FileFails w held on count ca p uri r → IsFileRefused w held on count ca p uri (file_cause r)
 file_reasons_refuse w held on count ca p uri r f = refuses_file w held ca p uri on count r f

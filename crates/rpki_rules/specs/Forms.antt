@@ -3,7 +3,8 @@ use Rattle.objects_payload.specs.bcder_tree.declared.mode.Mode.{Mode}
 use Rattle.objects_payload.specs.bcder_tree.declared.mode.Mode.TheVariants.{Ber, Der}
 
 -- What P reads R reads too, and what it means by P tells what it means by R.
-pub record Carries {S A B : Type 0} (f : A → B) (P : S → A → Type 0) (R : S → B → Type 0) : Type 0 where
+pub record Carries {S A B : Type 0} (f : A → B) (P : S → A → Type 0) (R : S → B → Type 0)
+    : Type 0 where
   pub carried : (s : S) (x : A) → P s x → R s (f x)
 
 -- With the same meaning.

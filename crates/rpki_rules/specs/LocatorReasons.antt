@@ -14,7 +14,7 @@ use Rattle.rpki_rules.specs.Certs.{Key, Cert, CertText, encoded}
 use Rattle.rpki_rules.specs.Locators.{LocatorText, https_first}
 use Rattle.rpki_rules.specs.World.{World, at}
 use Rattle.rpki_rules.specs.Points.{IsFirstHeld}
-use Rattle.rpki_rules.specs.Reasons.{CertTest, Inspection, Verification, PassesCert}
+use Rattle.rpki_rules.specs.Reasons.{Inspection, Verification, PassesCert}
 -- A test of an anchor's certificate: that it has the locator's key, or one of the certificate as
 -- its own issuer.
 pub use Rattle.rpki_rules.specs.declared.reason.locators.AnchorTest.{AnchorTest}

@@ -15,7 +15,8 @@ abbrev pub refusals_eq : Refusal → Refusal → Bool
 refusals_eq = eq_by_cmp refusals_cmp
 
 pub refusals_total : IsTotalOrder refusals_cmp
-refusals_total = then_total (on_total (λ (r : Refusal). r.name) nat_list_cmp_total) (on_total (λ (r : Refusal). cause_text r.cause) nat_list_cmp_total)
+refusals_total = then_total (on_total (λ (r : Refusal). r.name) nat_list_cmp_total)
+    (on_total (λ (r : Refusal). cause_text r.cause) nat_list_cmp_total)
 
 pub refusals_equiv : IsEquivalence refusals_eq
 refusals_equiv = eq_by_cmp_equiv refusals_total

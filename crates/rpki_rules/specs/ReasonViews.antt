@@ -1,5 +1,5 @@
 -- What contracts see of reasons, and of claims the numbers that aren't held.
-use Rattle.std.specs.Prelude.{ℕ, List, []}
+use Rattle.std.specs.Prelude.{ℕ, List}
 use Rattle.rpki_rules.specs.resources_chain.Sets.{Run}
 use Rattle.certs_x509.specs.declared.errors.verification.Overclaimed.{Overclaimed}
 use Rattle.certs_x509.specs.declared.errors.verification.Overclaimed.TheVariants as outside

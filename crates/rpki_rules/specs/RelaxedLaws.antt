@@ -21,17 +21,23 @@ CertsStay = Carries relaxed_cert (SpellsCert Der) (SpellsCert Ber)
 
 -- Octets that are a signed object in DER are the same in BER, and no other.
 abbrev pub ObjectsStay : Type 0
-ObjectsStay = (octets : List ℕ) (o : Object) → ObjectText true octets o → ObjectText false octets (relaxed o)
+ObjectsStay =
+    (octets : List ℕ) (o : Object) → ObjectText true octets o → ObjectText false octets (relaxed o)
 
 abbrev pub ObjectsStayAlone : Type 0
-ObjectsStayAlone = (octets : List ℕ) (o p : Object) → ObjectText true octets o → ObjectText false octets p → p ≡ relaxed o
+ObjectsStayAlone =
+    (octets : List ℕ) (o p : Object) → ObjectText true octets o → ObjectText false octets p
+    → p ≡ relaxed o
 
 -- The same for objects of one kind, whose content stays too.
 abbrev pub Stays : {A : Type 0} → (Bool → List ℕ → Object → A → Type 0) → Type 0
-Stays {A} Text = (octets : List ℕ) (o : Object) (x : A) → Text true octets o x → Text false octets (relaxed o) x
+Stays {A} Text =
+    (octets : List ℕ) (o : Object) (x : A) → Text true octets o x → Text false octets (relaxed o) x
 
 abbrev pub StaysAlone : {A : Type 0} → (Bool → List ℕ → Object → A → Type 0) → Type 0
-StaysAlone {A} Text = (octets : List ℕ) (o p : Object) (x y : A) → Text true octets o x → Text false octets p y → (p ≡ relaxed o) × (y ≡ x)
+StaysAlone {A} Text =
+    (octets : List ℕ) (o p : Object) (x y : A) → Text true octets o x → Text false octets p y
+    → (p ≡ relaxed o) × (y ≡ x)
 
 -- A name that was read in DER passes inspection exactly where it does read in BER; strict is PrintableString alone.
 abbrev pub NamesAlike : Type 0
@@ -40,7 +46,9 @@ NamesAlike = (strict : Bool) (text : List ℕ) (name : CapturedValue) → Spells
 
 -- So does the certificate of an object, as one of any role.
 abbrev pub InspectedAlike : Type 0
-InspectedAlike = (octets : List ℕ) (o : Object) → ObjectText true octets o → (d : Digests) (strict : Bool) (role : Role) →
+InspectedAlike =
+    (octets : List ℕ) (o : Object) → ObjectText true octets o
+    → (d : Digests) (strict : Bool) (role : Role) →
     Profile d strict role o.cert ↔ Profile d strict role (relaxed_cert o.cert)
 
 -- An object is sound exactly where it is relaxed.

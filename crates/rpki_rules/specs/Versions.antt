@@ -13,8 +13,12 @@ upgraded relaxed b = record b { version = One relaxed }
 
 -- The output of a bundle of version 0 is that of its upgrade that isn't relaxed.
 abbrev pub UpgradeStays : Type 0
-UpgradeStays = (d : Digests) (b : BundleValue) → b.version ≡ Zero → (text : List ℕ) → IsOutput (run_world d b) text ↔ IsOutput (run_world d (upgraded false b)) text
+UpgradeStays =
+    (d : Digests) (b : BundleValue) → b.version ≡ Zero → (text : List ℕ)
+    → IsOutput (run_world d b) text ↔ IsOutput (run_world d (upgraded false b)) text
 
 -- Relaxed, a bundle of version 1 attests each origin and each provider that it attests not relaxed.
 abbrev pub RelaxedKeeps : Type 0
-RelaxedKeeps = (d : Digests) (b : BundleValue) → KeepsAll (run_world d (upgraded false b)) (run_world d (upgraded true b))
+RelaxedKeeps =
+    (d : Digests) (b : BundleValue)
+    → KeepsAll (run_world d (upgraded false b)) (run_world d (upgraded true b))

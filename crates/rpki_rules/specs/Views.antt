@@ -21,7 +21,13 @@ kind_of family.Ipv4 = Ipv4
 kind_of family.Ipv6 = Ipv6
 
 abbrev pub origin_of : Origin → OriginValue
-origin_of x = record { kind = kind_of x.family; addr = bits_of x.addr; len = x.len; max_len = x.max_len; asn = x.asn.value }
+origin_of x = record {
+  kind = kind_of x.family;
+  addr = bits_of x.addr;
+  len = x.len;
+  max_len = x.max_len;
+  asn = x.asn.value;
+}
 
 abbrev pub provision_of : Provision → ProvisionValue
 provision_of x = record { customer = x.customer.value; provider = x.provider.value }

@@ -40,10 +40,6 @@ each_none w (u ∷ us) never =
     next_none w u us (at w u) refl (λ e. each_none w us (λ key octets h. never key octets (inr (e, h)))) (λ octets e. never (lookup_key u) octets (inl (refl, e)))
 
 module _ (w : World) (us : List TalUri) where
-  -- Before the first is tried.
-  pub passes_none : Passes w (map text_of (drop 0 us)) (map text_of us)
-  passes_none = record { there = λ key octets h. h; back = λ key octets h. h }
-
   -- There is no object at this one.
   pub passes_one : (i : ℕ) (u : TalUri) → i < length us → u ≡ get_or us i u → at w (text_of u) ≡ None → Passes w (map text_of (drop i us)) (map text_of us) → Passes w (map text_of (drop (i + 1) us)) (map text_of us)
   passes_one i u inside e none p =

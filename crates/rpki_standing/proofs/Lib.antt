@@ -17,7 +17,6 @@ pub mod FirstHeld
 pub mod Following
 pub mod Endings
 pub mod Growth
-pub mod Passing
 pub mod Reading
 pub mod Soundness
 pub mod of_rpki_rules

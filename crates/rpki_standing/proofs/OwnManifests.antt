@@ -1,5 +1,5 @@
 -- An authority has one manifest at most: what its manifest URI reads as, if that is current and its own.
-use Rattle.std.proofs.Common.{◌≡◌, ℕ, List, [], ◌∷◌, ◌++◌, map, Option, Some, None, Result, Ok, Err, refl, sym, ap, ◌∙◌, subst, append_assoc}
+use Rattle.std.proofs.Common.{◌≡◌, ℕ, List, [], ◌∷◌, ◌++◌, map, Some, None, Err, refl, sym, ap, ◌∙◌, subst, append_assoc}
 use Rattle.objects_valid.specs.Kinds.{KindValue}
 use Rattle.rpki_standing.specs.certs_basics.Lists.{Each, FirstFailing}
 use Rattle.rpki_standing.specs.certs_extension.declared.forms.Role.TheVariants.{Ee}

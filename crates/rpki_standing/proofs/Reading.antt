@@ -1,5 +1,5 @@
 -- What the object with a lookup key reads as, by the extension of its name.
-use Rattle.std.proofs.Common.{◌≡◌, ◌↔◌, ℕ, Bool, List, Option, Some, None, sym, ap, ◌∙◌, subst}
+use Rattle.std.proofs.Common.{◌≡◌, ◌↔◌, ℕ, Bool, List, Option, Some, None, sym, ap, subst}
 use Rattle.rpki_standing.specs.bcder_source.Errors.{OnContent}
 use Rattle.rpki_standing.specs.bcder_source.declared.error.DecodeError.{DecodeError}
 use Rattle.rpki_standing.proofs.Endings.{one_extension}
@@ -82,10 +82,6 @@ no_text w uri octets found none told o (OfAspa a) t = let e : found ≡ Some ext
 
 pub no_extension : (w : World) (uri : List ℕ) (found : Option Extension) → found ≡ None → IsFound uri found → (o : Object) (x : Payload) → ¬ (HasPayload w uri o x)
 no_extension w uri found none told o x t = no_text w uri t.octets found none told o x t.reads
-
--- There is no object.
-pub not_there : (w : World) (uri : List ℕ) → w.object uri ≡ None → (o : Object) (x : Payload) → ¬ (HasPayload w uri o x)
-not_there w uri none o x t = let wrong : None ≡ Some t.octets = sym none ∙ t.held in absurd cc
 
 module _ (d : Digests) (v : Verdicts) (b : BundleValue) (uri octets : List ℕ) (e : Extension) (found : Option Extension) (is : found ≡ Some e) (told : IsFound uri found) where
   -- What the octets are by the name is what they are by the extension that was found.

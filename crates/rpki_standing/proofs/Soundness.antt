@@ -1,6 +1,5 @@
 -- What stands at a file of a publication point, of what the object there reads as.
-use Rattle.std.proofs.Common.{◌≡◌, ◌++◌, ℕ, List, [], map, None, Result, Ok, Err, refl, subst}
-use Rattle.certs_verify.specs.TestAnswers.{Answers}
+use Rattle.std.proofs.Common.{◌++◌, ℕ, List, [], map, None, refl, subst}
 use Rattle.rpki_standing.specs.certs_basics.Lists.{Each, FirstFailing}
 use Rattle.rpki_standing.specs.certs_extension.declared.forms.Role.TheVariants.{Ee}
 use Rattle.rpki_rules.specs.resources.Resources.{Resources}
@@ -26,11 +25,6 @@ use Rattle.rpki_rules.proofs.FileReasons.{revocation_passes, passes_revocation}
 use Rattle.rpki_standing.specs.Published.{FindsReading, IsUnsigned, signed_tests}
 use Rattle.rpki_standing.proofs.Reading.{one_reading}
 
--- No test is told, so all are passed.
-pub all_passed : {X : Type 0} (P : X → Type 0) (ts : List X) (r : Result (Unit {0}) X) → ((x : X) → r ≡ Err x → ⊥) → Answers P ts r → Each P ts
-all_passed P ts (Ok x) n all = all
-all_passed P ts (Err x) n f = absurd (n x refl)
-
 -- The tests of an object that look at nothing that is held, one part after the other.
 module _ (w : World) (held : Kind → ℕ → Type 0) (ca : Cert) (p : Point) (o : Object) where
   abbrev P : ObjectTest → Type 0
@@ -45,33 +39,27 @@ module _ (w : World) (held : Kind → ℕ → Type 0) (ca : Cert) (p : Point) (o
   abbrev contents : List ObjectTest
   contents = map ObjectContent content_tests
 
-  pub revoked : (c : Cert) (t : RevocationTest) → c ≡ o.cert → Answers (PassesRevocation p c) revocation_tests (Err t) → FirstFailing P signed_tests (ObjectRevocation t)
-  revoked c t e f =
-      let h : FirstFailing (PassesRevocation p o.cert) revocation_tests t = subst (λ (x : Cert). FirstFailing (PassesRevocation p x) revocation_tests t) e f in
-      first_in_front P revocations (certs ++ contents) (ObjectRevocation t) (first_map ObjectRevocation P revocation_tests t h)
+  pub revoked : (t : RevocationTest) → FirstFailing (PassesRevocation p o.cert) revocation_tests t → FirstFailing P signed_tests (ObjectRevocation t)
+  revoked t f = first_in_front P revocations (certs ++ contents) (ObjectRevocation t) (first_map ObjectRevocation P revocation_tests t f)
 
-  unrevoked : (c : Cert) → c ≡ o.cert → Each (PassesRevocation p c) revocation_tests → Each P revocations
-  unrevoked c e all = map_each ObjectRevocation P revocation_tests (subst (λ (x : Cert). Each (PassesRevocation p x) revocation_tests) e all)
+  module _ (all : Each (PassesRevocation p o.cert) revocation_tests) where
+    unrevoked : Each P revocations
+    unrevoked = map_each ObjectRevocation P revocation_tests all
 
-  pub unissued : (c d : Cert) (t : CertTest) → c ≡ o.cert → d ≡ o.cert → Each (PassesRevocation p c) revocation_tests → Answers (PassesCert w Ee ca d) (cert_tests Ee) (Err t) → FirstFailing P signed_tests (ObjectCert t)
-  unissued c d t e g all f =
-      let h : FirstFailing (PassesCert w Ee ca o.cert) (cert_tests Ee) t = subst (λ (x : Cert). FirstFailing (PassesCert w Ee ca x) (cert_tests Ee) t) g f in
-      first_behind P revocations (certs ++ contents) (ObjectCert t) (unrevoked c e all) (first_in_front P certs contents (ObjectCert t) (first_map ObjectCert P (cert_tests Ee) t h))
+    pub unissued : (t : CertTest) → FirstFailing (PassesCert w Ee ca o.cert) (cert_tests Ee) t → FirstFailing P signed_tests (ObjectCert t)
+    unissued t f =
+        first_behind P revocations (certs ++ contents) (ObjectCert t) unrevoked (first_in_front P certs contents (ObjectCert t) (first_map ObjectCert P (cert_tests Ee) t f))
 
-  issued : (d : Cert) → d ≡ o.cert → Each (PassesCert w Ee ca d) (cert_tests Ee) → Each P certs
-  issued d g all = map_each ObjectCert P (cert_tests Ee) (subst (λ (x : Cert). Each (PassesCert w Ee ca x) (cert_tests Ee)) g all)
+    module _ (by : Each (PassesCert w Ee ca o.cert) (cert_tests Ee)) where
+      issued : Each P certs
+      issued = map_each ObjectCert P (cert_tests Ee) by
 
-  module _ (c d : Cert) (q : Object) (e : c ≡ o.cert) (g : d ≡ o.cert) (same : q ≡ o) (all : Each (PassesRevocation p c) revocation_tests) (by : Each (PassesCert w Ee ca d) (cert_tests Ee)) where
-    pub unsound : (t : ContentTest) → Answers (PassesContent w q) content_tests (Err t) → FirstFailing P signed_tests (ObjectContent t)
-    unsound t f =
-        let h : FirstFailing (PassesContent w o) content_tests t = subst (λ (x : Object). FirstFailing (PassesContent w x) content_tests t) same f in
-        first_behind P revocations (certs ++ contents) (ObjectContent t) (unrevoked c e all)
-        (first_behind P certs contents (ObjectContent t) (issued d g by) (first_map ObjectContent P content_tests t h))
+      pub unsound : (t : ContentTest) → FirstFailing (PassesContent w o) content_tests t → FirstFailing P signed_tests (ObjectContent t)
+      unsound t f =
+          first_behind P revocations (certs ++ contents) (ObjectContent t) unrevoked (first_behind P certs contents (ObjectContent t) issued (first_map ObjectContent P content_tests t f))
 
-    pub sound : Each (PassesContent w q) content_tests → Each P signed_tests
-    sound signed =
-        let h : Each (PassesContent w o) content_tests = subst (λ (x : Object). Each (PassesContent w x) content_tests) same signed in
-        each_join P revocations (certs ++ contents) (unrevoked c e all) (each_join P certs contents (issued d g by) (map_each ObjectContent P content_tests h))
+      pub sound : Each (PassesContent w o) content_tests → Each P signed_tests
+      sound signed = each_join P revocations (certs ++ contents) unrevoked (each_join P certs contents issued (map_each ObjectContent P content_tests signed))
 
 -- What is sound passes them, and the other way round.
 module _ (w : World) (ca : Cert) (p : Point) (uri : List ℕ) where
@@ -80,7 +68,7 @@ module _ (w : World) (ca : Cert) (p : Point) (uri : List ℕ) where
 
   pub passes_signed : (held : Kind → ℕ → Type 0) (o : Object) (x : Payload) → IsSigned w ca p uri o x → Each (PassesObject w held ca p o) signed_tests
   passes_signed held o x s =
-      sound w held ca p o o.cert o.cert o refl refl refl (passes_revocation p o.cert s.unrevoked) (passes_cert w Ee ca o.cert s.profile s.signed) (passes_content w o s.sound)
+      sound w held ca p o (passes_revocation p o.cert s.unrevoked) (passes_cert w Ee ca o.cert s.profile s.signed) (passes_content w o s.sound)
 
   -- What it reads as is sound.
   pub found_sound : (held : Kind → ℕ → Type 0) → Mem (files ca p.manifest) uri → (o : Object) (x : Payload) → HasPayload w uri o x → Each (PassesObject w held ca p o) signed_tests → IsSigned w ca p uri o x

@@ -1,5 +1,5 @@
 -- An authority has one point at most: by its manifest, the files that it lists, and the revocation list. Else it has a reason.
-use Rattle.std.proofs.Common.{◌≡◌, ℕ, List, [], ◌∷◌, ◌++◌, map, sym, subst}
+use Rattle.std.proofs.Common.{ℕ, List, ◌++◌, map, subst}
 use Rattle.std.specs.Prelude.{◌↔◌}
 use Rattle.objects_valid.specs.Kinds.{KindValue}
 use Rattle.rpki_standing.specs.certs_basics.Lists.{Each, FirstFailing}
@@ -12,7 +12,6 @@ use Rattle.rpki_rules.specs.declared.reason.points.ManifestTest.{ManifestTest as
 use Rattle.rpki_rules.specs.declared.reason.points.PointReason.{PointReason}
 use Rattle.rpki_rules.specs.declared.reason.points.PointReason.TheVariants as why
 use Rattle.rpki_rules.specs.Certs.{Cert, Crl}
-use Rattle.rpki_rules.specs.Chains.{Fits}
 use Rattle.rpki_rules.specs.Kinds.{Kind, claim}
 use Rattle.rpki_rules.specs.Objects.{File, Manifest, Object}
 use Rattle.rpki_rules.specs.Points.{HasFiles, IsCrlOf, IsHeld, IsPoint, Point, files}
@@ -26,17 +25,9 @@ use Rattle.rpki_rules.proofs.Firsts.{each_also, each_join, flat_each, none_fails
 use Rattle.rpki_rules.proofs.PointReasons.{file_passes, one_list, refutes}
 use Rattle.rpki_standing.specs.Manifests.{IsOwnManifest}
 use Rattle.rpki_standing.specs.PointFaults.{FailsList, FailsUnheld, PassesUnheld, held_tests, naming_tests, own_tests, unheld_tests}
-use Rattle.rpki_standing.specs.Standing.{AreParts, IsStanding}
 use Rattle.rpki_standing.proofs.Failing.{one_value}
 use Rattle.rpki_standing.proofs.PassedTo.{first_alike}
 use Rattle.rpki_standing.proofs.OwnManifests.{own_has, own_passes, whole_tests}
-
--- A point whose manifest has its files and its list stands.
-pub stands : (w : World) (ca : Cert) (k given : KindValue Manifest) (keys : List (List ℕ)) (crl : Crl) → given ≡ k → IsOwnManifest w ca k → AreParts w ca k keys crl
-    → IsStanding w ca (record { point = record { object = given.signed; manifest = given.content; crl = crl }; keys = keys })
-stands w ca k given keys crl e own a =
-    subst (λ (m : KindValue Manifest). IsStanding w ca (record { point = record { object = m.signed; manifest = m.content; crl = crl }; keys = keys })) (sym e)
-    (record { point = record { manifest = own; files = a.held; crl = a.list }; keys = a.keys_are })
 
 module _ (w : World) (ca : Cert) where
   -- A manifest that has its files passes the tests of them.
@@ -49,10 +40,6 @@ module _ (w : World) (ca : Cert) where
           (each_also (IsHeld w h.folder) (λ (f : File). Each (PassesManifest w ca o m) (file_tests f)) m.files (file_passes w ca o m h.folder h.folder_is) h.each),
     ),
   )
-
-  -- So one that fails one of them hasn't.
-  pub unheld_files : (o : Object) (m : Manifest) (t : ManifestTest) → FirstFailing (PassesManifest w ca o m) (held_tests m) t → ¬ (HasFiles w ca m)
-  unheld_files o m t f h = none_fails (PassesManifest w ca o m) (held_tests m) t (held_passes o m h) f
 
   -- What a manifest's list passes.
   has_list : (o : Object) (m : Manifest) (crl : Crl) → IsCrlOf w ca o m crl → HasList w o crl

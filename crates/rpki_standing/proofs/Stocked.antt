@@ -1,21 +1,22 @@
 -- Which manifests have all their files, and else which test fails.
-use Rattle.std.proofs.Common.{◌≡◌, ℕ, List, [], ◌∷◌, None, Some, map, refl, sym, ◌∙◌, subst}
+use Rattle.std.proofs.Common.{◌≡◌, ℕ, List, [], ◌∷◌, None, Some, refl, sym, subst}
 use Rattle.rpki_standing.specs.certs_basics.Lists.{Each, FirstFailing}
 use Rattle.rpki_standing.specs.certs_basics.Paths.{join}
-use Rattle.rpki_rules.specs.Certs.{Cert, Verdicts}
+use Rattle.rpki_standing.specs.rpki_bundle.Bundle.{BundleValue}
+use Rattle.rpki_rules.specs.Certs.{Cert, Digests, Verdicts}
 use Rattle.rpki_rules.specs.Objects.{File, Manifest, Object}
-use Rattle.rpki_rules.specs.PointReasons.{ManifestTest, FileHeld, FileHash, IsFolder, PassesManifest, file_tests}
+use Rattle.rpki_rules.specs.PointReasons.{FileHeld, FileHash, IsFolder, PassesManifest, file_tests}
 use Rattle.rpki_rules.specs.Points.{HasFiles, IsHeld}
-use Rattle.rpki_rules.specs.World.{World, at}
+use Rattle.rpki_rules.specs.World.{World, at, world_of}
 use Rattle.rpki_rules.proofs.Firsts.{each_also, each_flat, not_none}
 use Rattle.rpki_rules.proofs.PointReasons.{file_passes}
 use Rattle.rpki_standing.specs.PointFaults.{names_tests}
 use Rattle.rpki_standing.proofs.Failing.{one_value}
 
 -- The file passes its tests whatever the verdicts, in each manifest of each authority with that folder.
-abbrev pub IsThere : (Verdicts → World) → List ℕ → File → Type 0
-IsThere w folder f =
-    (v : Verdicts) (ca : Cert) (o : Object) (m : Manifest) → IsFolder ca folder → Each (PassesManifest (w v) ca o m) (file_tests f)
+abbrev pub IsThere : Digests → BundleValue → List ℕ → File → Type 0
+IsThere d b folder f =
+    (v : Verdicts) (ca : Cert) (o : Object) (m : Manifest) → IsFolder ca folder → Each (PassesManifest (world_of d v b) ca o m) (file_tests f)
 
 module _ (w : World) (ca : Cert) (o : Object) (m : Manifest) (folder : List ℕ) (is : IsFolder ca folder) where
   -- Files that pass their tests are had.

@@ -1,5 +1,5 @@
 -- Verdicts in a table that ascends.
-use Rattle.std.proofs.Common.{◌≡◌, ◌↔◌, ℕ, suc, inl, inr, Bool, true, false, IsTrue, ◌&&◌, ◌||◌, ◌++◌, List, [], ◌∷◌, length, All, Option, Some, None, bytes_eq, refl, sym, ap, ◌∙◌, subst, arith}
+use Rattle.std.proofs.Common.{◌≡◌, ◌↔◌, ℕ, suc, inl, inr, Bool, true, false, IsTrue, ◌&&◌, ◌++◌, List, [], ◌∷◌, length, All, Option, Some, None, bytes_eq, refl, sym, ap, ◌∙◌, subst, arith}
 use Rattle.std.proofs.lemmas.Slice.Eq.{bytes_eq-Decides}
 use Rattle.std.specs.Cmp.{both_ways}
 use Rattle.std.specs.List.{list_any}
@@ -11,6 +11,7 @@ use Rattle.rpki_standing.specs.certs_basics.HandedIn.{Digests}
 use Rattle.rpki_standing.specs.certs_basics.Keys.{KeyValue, encoded}
 use Rattle.rpki_rules.specs.Words.{Mem}
 use Rattle.rpki_rules.specs.World.{table}
+use Rattle.rpki_rules.proofs.Lists.{any_mem, mem_any}
 use Rattle.rpki_standing.specs.Places.{IsPlace}
 use Rattle.rpki_standing.proofs.Places.{mem_place, place_mem}
 
@@ -58,24 +59,6 @@ found_told us vs v r answer same each digests e h =
     found_is vs v r answer (λ w m. all_mem IsLawfulVerdict vs w each m) digests e
     (subst (λ (ws : List Verdict). MatchOption r ((k : ℕ) → IsPlace verdict_row ws (verdict_row v) k → ⊥) (IsPlace verdict_row ws (verdict_row v))) same h)
 
--- A test of each of a list, and what it finds.
-any_found : {X : Type 0} (test : X → Bool) (xs : List X) → list_any test xs ≡ true → (x : X) × Mem xs x × (test x ≡ true)
-any_found {X} test [] e = absurd cc
-any_found {X} test (x ∷ xs) e = at (test x) (any_found test xs) refl e
-  where
-    at : (b : Bool) → (list_any test xs ≡ true → (y : X) × Mem xs y × (test y ≡ true)) → test x ≡ b → b || list_any test xs ≡ true → (y : X) × Mem (x ∷ xs) y × (test y ≡ true)
-    at true others t e = (x, inl refl, t)
-    at false others t e = let r = others e in (r.0, inr r.1, r.2)
-
-found_any : {X : Type 0} (test : X → Bool) (xs : List X) (x : X) → Mem xs x → test x ≡ true → list_any test xs ≡ true
-found_any test [] x m t = absurd m
-found_any test (y ∷ ys) x (inl e) t = subst (λ (b : Bool). b || list_any test ys ≡ true) (sym (ap test e ∙ t)) refl
-found_any test (y ∷ ys) x (inr m) t = at (test y) (found_any test ys x m t)
-  where
-    at : (b : Bool) → list_any test ys ≡ true → b || list_any test ys ≡ true
-    at true e = refl
-    at false e = e
-
 both : (a b : Bool) → a && b ≡ true → (a ≡ true) × (b ≡ true)
 both true b e = (refl, e)
 both false b e = absurd cc
@@ -93,9 +76,9 @@ table_told vs d key has_null message signature v answer ek em es h =
     let test : Verdict → Bool = λ w. bytes_eq w.key k && (bytes_eq w.message m && bytes_eq w.signature s) in
     let passes : test v ≡ true = all_true _ _ ((bytes_eq-Decides v.key k).1 ek) (all_true _ _ ((bytes_eq-Decides v.message m).1 em) ((bytes_eq-Decides v.signature s).1 es)) in
     both_ways answer (list_any test vs)
-    (λ t. found_any test vs v (h.0 t) passes)
+    (λ t. mem_any test vs v (h.0 t) passes)
     (λ t.
-    let f = any_found test vs t in
+    let f = any_mem test vs t in
     let w = f.0 in
     let x = both (bytes_eq w.key k) (bytes_eq w.message m && bytes_eq w.signature s) f.2 in
     let y = both (bytes_eq w.message m) (bytes_eq w.signature s) x.1 in

@@ -1,5 +1,5 @@
 -- What verification of a certificate answers, by the tests that its errors tell.
-use Rattle.std.proofs.Common.{◌≡◌, ◌∙◌, ℕ, true, List, [], ◌∷◌, ◌++◌, map, Option, Some, None, Result, Ok, Err, MatchResult, refl, sym, ap, subst}
+use Rattle.std.proofs.Common.{◌≡◌, ◌∙◌, true, List, [], ◌∷◌, ◌++◌, map, Option, Some, None, Result, Ok, Err, MatchResult, refl, sym, ap, subst}
 use Rattle.std.proofs.lemmas.Result.{err_from_is_err_and}
 use Rattle.std.specs.Prelude.{◌≢◌, IfErr, IsErrAnd}
 use Rattle.certs_verify.specs.certs_x509.declared.errors.verification.VerificationError.{VerificationError}
@@ -14,14 +14,14 @@ use Rattle.rpki_standing.specs.certs_extension.declared.forms.VerificationTest.{
 use Rattle.rpki_standing.specs.certs_extension.declared.forms.VerificationTest.TheVariants as test
 use Rattle.rpki_standing.specs.certs_extension.Profiles.{Profile, FailsFirst, tests}
 use Rattle.rpki_standing.specs.certs_extension.Verified.{PassesAt, issuer_claim, nothing, validity}
-use Rattle.rpki_rules.specs.Certs.{Cert, Verdicts}
+use Rattle.rpki_rules.specs.Certs.{Cert}
 use Rattle.rpki_rules.specs.declared.reason.certs.CertTest.TheVariants.{Inspection, Verification}
-use Rattle.rpki_rules.specs.Reasons.{PassesCert, cert_tests, signature_tests}
+use Rattle.rpki_rules.specs.Reasons.{PassesCert, signature_tests}
 use Rattle.rpki_rules.specs.declared.reason.certs.CertTest.{CertTest}
 use Rattle.rpki_rules.specs.World.{World}
 use Rattle.rpki_rules.proofs.Firsts.{each_join, map_each}
 use Rattle.rpki_rules.proofs.FirstParts.{first_behind, first_in_front, first_map}
-use Rattle.rpki_standing.specs.Tests.{IsTest, Tells, TellsTest}
+use Rattle.rpki_standing.specs.Tests.{IsTest, TellsTest}
 
 -- An error whose fault is lack of memory is that of memory.
 memory_of : (e : VerificationError) → fault_of e ≡ Some wants_memory → e ≡ error.Memory
@@ -59,54 +59,36 @@ module _ (P : VerificationTest → Type 0) (ts : List VerificationTest) where
   test_answers (Err e) (Ok y) told same = absurd same
   test_answers (Err e) (Err t) told same = subst (Fails P ts) same told
 
--- The answer of a verification at the world's moment.
-pub answers_at : (good : Verdicts) (moment now : ℕ) (issuer c : Cert) (ts : List VerificationTest) (q : Result (Unit {0}) VerificationError) (r : Result (Unit {0}) VerificationTest)
-    → now ≡ moment → Answers (PassesAt good now issuer nothing c) ts q → TellsTest q r → TestAnswers (PassesAt good moment issuer nothing c) ts r
-answers_at good moment now issuer c ts q r e told same =
-    subst (λ (n : ℕ). TestAnswers (PassesAt good n issuer nothing c) ts r) e (test_answers (PassesAt good now issuer nothing c) ts q r told same)
-
--- Where an answer is no error all tests are passed.
-pub all_told : {A E X : Type 0} (test_of : E → X) (P : X → Type 0) (ts : List X) (r : Result A E) → ((e : E) → ¬ (r ≡ Err e)) → Tells test_of P ts r → Each P ts
-all_told test_of P ts (Ok x) n told = told
-all_told test_of P ts (Err e) n told = absurd (n e refl)
-
-pub all_answered : {X : Type 0} (P : X → Type 0) (ts : List X) (r : Result (Unit {0}) X) → ((e : X) → ¬ (r ≡ Err e)) → TestAnswers P ts r → Each P ts
-all_answered P ts (Ok x) n told = told
-all_answered P ts (Err e) n told = absurd (n e refl)
-
 -- Validity, the claim to the issuer and the signature, one after the other.
 module _ (P : VerificationTest → Type 0) where
-  abbrev Told : List VerificationTest → Result (Unit {0}) VerificationTest → Type 0
-  Told ts r = TestAnswers P ts r
+  pub validity_fails : (t : VerificationTest) → FirstFailing P validity t → FirstFailing P signature_tests t
+  validity_fails t f = first_in_front P validity (issuer_claim ++ test.BadSignature ∷ []) t f
 
-  pub validity_fails : (r : Result (Unit {0}) VerificationTest) (t : VerificationTest) → r ≡ Err t → Told validity r → FirstFailing P signature_tests t
-  validity_fails r t e told = first_in_front P validity (issuer_claim ++ test.BadSignature ∷ []) t (subst (Told validity) e told)
+  module _ (valid : Each P validity) where
+    pub claim_fails : (t : VerificationTest) → FirstFailing P issuer_claim t → FirstFailing P signature_tests t
+    claim_fails t f = first_behind P validity (issuer_claim ++ test.BadSignature ∷ []) t valid (first_in_front P issuer_claim (test.BadSignature ∷ []) t f)
 
-  pub claim_fails : (q r : Result (Unit {0}) VerificationTest) (x : Unit {0}) (t : VerificationTest) → q ≡ Ok x → r ≡ Err t → Told validity q → Told issuer_claim r → FirstFailing P signature_tests t
-  claim_fails q r x t d e valid told =
-      first_behind P validity (issuer_claim ++ test.BadSignature ∷ []) t (subst (Told validity) d valid)
-      (first_in_front P issuer_claim (test.BadSignature ∷ []) t (subst (Told issuer_claim) e told))
+    pub signature_told : Each P issuer_claim → (r : Result (Unit {0}) VerificationTest) → TestAnswers P (test.BadSignature ∷ []) r → TestAnswers P signature_tests r
+    signature_told claimed (Ok x) told = each_join P validity (issuer_claim ++ test.BadSignature ∷ []) valid (each_join P issuer_claim (test.BadSignature ∷ []) claimed told)
+    signature_told claimed (Err t) told =
+        first_behind P validity (issuer_claim ++ test.BadSignature ∷ []) t valid (first_behind P issuer_claim (test.BadSignature ∷ []) t claimed told)
 
-  pub signature_told : (q r s : Result (Unit {0}) VerificationTest) (x y : Unit {0}) → q ≡ Ok x → r ≡ Ok y → Told validity q → Told issuer_claim r → Told (test.BadSignature ∷ []) s → Told signature_tests s
-  signature_told q r (Ok z) x y d e valid claimed told =
-      each_join P validity (issuer_claim ++ test.BadSignature ∷ []) (subst (Told validity) d valid) (each_join P issuer_claim (test.BadSignature ∷ []) (subst (Told issuer_claim) e claimed) told)
-  signature_told q r (Err t) x y d e valid claimed told =
-      first_behind P validity (issuer_claim ++ test.BadSignature ∷ []) t (subst (Told validity) d valid) (first_behind P issuer_claim (test.BadSignature ∷ []) t (subst (Told issuer_claim) e claimed) told)
+-- Tests behind others that are passed, told by a word of the whole.
+pub told_by : {X Y : Type 0} (word : X → Y) (P : Y → Type 0) (front : List Y) (xs : List X) (s : Result (Unit {0}) X) (r : Result (Unit {0}) Y) → Each P front → TestAnswers (λ (x : X). P (word x)) xs s
+    → MatchResult s (λ x. r ≡ Ok x) (λ e. IsErrAnd r (λ d. d ≡ word e)) → TestAnswers P (front ++ map word xs) r
+told_by word P front xs (Ok x) r passed told same = subst (TestAnswers P (front ++ map word xs)) (sym same) (each_join P front (map word xs) passed (map_each word P xs told))
+told_by {X} {Y} word P front xs (Err e) r passed told same =
+    let p = err_from_is_err_and r same in
+    subst (TestAnswers P (front ++ map word xs)) (sym (p.1 ∙ ap (λ (y : Y). Err y) p.2)) (first_behind P front (map word xs) (word e) passed (first_map word P xs e told))
 
 -- A certificate's form, and then what its issuer and the moment say.
-module _ (w : World) (role : Role) (ca c : Cert) where
+module _ (w : World) (role : Role) (others : List VerificationTest) (ca c : Cert) where
   abbrev Passed : CertTest → Type 0
   Passed t = PassesCert w role ca c t
 
-  pub form_fails : (t : InspectionError) → FailsFirst w.digests true role c t → FirstFailing (PassesCert w role ca c) (cert_tests role) (Inspection t)
-  form_fails t f = first_in_front Passed (map Inspection (tests role)) (map Verification signature_tests) (Inspection t) (first_map Inspection Passed (tests role) t f)
+  pub form_fails : (t : InspectionError) → FailsFirst w.digests true role c t → FirstFailing (PassesCert w role ca c) (map Inspection (tests role) ++ map Verification others) (Inspection t)
+  form_fails t f = first_in_front Passed (map Inspection (tests role)) (map Verification others) (Inspection t) (first_map Inspection Passed (tests role) t f)
 
-  pub cert_told : (s : Result (Unit {0}) VerificationTest) (r : Result (Unit {0}) CertTest) → Profile w.digests true role c → TestAnswers (PassesAt w.good w.moment ca nothing c) signature_tests s
-      → MatchResult s (λ x. r ≡ Ok x) (λ e. IsErrAnd r (λ d. d ≡ Verification e)) → TestAnswers (PassesCert w role ca c) (cert_tests role) r
-  cert_told (Ok x) r form told same =
-      subst (TestAnswers Passed (cert_tests role)) (sym same)
-      (each_join Passed (map Inspection (tests role)) (map Verification signature_tests) (map_each Inspection Passed (tests role) form) (map_each Verification Passed signature_tests told))
-  cert_told (Err t) r form told same =
-      let p = err_from_is_err_and r same in
-      subst (TestAnswers Passed (cert_tests role)) (sym (p.1 ∙ ap (λ (e : CertTest). Err e) p.2))
-      (first_behind Passed (map Inspection (tests role)) (map Verification signature_tests) (Verification t) (map_each Inspection Passed (tests role) form) (first_map Verification Passed signature_tests t told))
+  pub cert_told : (s : Result (Unit {0}) VerificationTest) (r : Result (Unit {0}) CertTest) → Profile w.digests true role c → TestAnswers (PassesAt w.good w.moment ca nothing c) others s
+      → MatchResult s (λ x. r ≡ Ok x) (λ e. IsErrAnd r (λ d. d ≡ Verification e)) → TestAnswers (PassesCert w role ca c) (map Inspection (tests role) ++ map Verification others) r
+  cert_told s r form told same = told_by Verification Passed (map Inspection (tests role)) others s r (map_each Inspection Passed (tests role) form) told same

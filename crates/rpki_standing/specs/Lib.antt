@@ -4,12 +4,12 @@ pub mod Places
 pub mod PointFaults
 pub mod Crls
 pub mod Tests
-pub mod Issued
 pub mod Lookups
 pub mod Names
 pub mod Views
 pub mod Published
 pub mod Texts
+pub mod Readers
 -- What stands below, for the crates above.
 pub use Rattle.objects_valid.specs as objects_valid
 pub use Rattle.rpki_rules.specs as rpki_rules

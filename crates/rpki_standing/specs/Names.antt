@@ -12,4 +12,6 @@ letters extension.Asa = asa
 
 -- A name has one extension at most of the three.
 abbrev pub OneExtension : Type 0
-OneExtension = (uri : List ℕ) (a b : Extension) → HasExtension (letters a) uri → HasExtension (letters b) uri → a ≡ b
+OneExtension =
+    (uri : List ℕ) (a b : Extension) → HasExtension (letters a) uri → HasExtension (letters b) uri
+    → a ≡ b

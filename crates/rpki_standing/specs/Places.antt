@@ -9,6 +9,7 @@ abbrev pub stands_at : {X : Type 0} → (X → List ℕ) → List X → List ℕ
 stands_at row xs key k = slice_cmp nat_cmp (get_or (map row xs) k key) key
 
 -- An entry stands there, and has that row.
-pub record IsPlace {X : Type 0} (row : X → List ℕ) (xs : List X) (key : List ℕ) (k : ℕ) : Type 0 where
+pub record IsPlace {X : Type 0} (row : X → List ℕ) (xs : List X) (key : List ℕ) (k : ℕ)
+    : Type 0 where
   pub inside : k < length xs
   pub same : get_or (map row xs) k key ≡ key

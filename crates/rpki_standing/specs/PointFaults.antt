@@ -6,7 +6,7 @@ use Rattle.rpki_standing.specs.certs_extension.Verified.{nothing}
 use Rattle.rpki_rules.specs.declared.reason.points.PointReason.{PointReason}
 use Rattle.rpki_rules.specs.declared.reason.points.PointReason.TheVariants as why
 use Rattle.rpki_rules.specs.Certs.{Cert, Crl}
-use Rattle.rpki_rules.specs.Objects.{File, Manifest, Object}
+use Rattle.rpki_rules.specs.Objects.{Manifest, Object}
 use Rattle.rpki_rules.specs.Points.{Point}
 use Rattle.rpki_rules.specs.World.{World}
 use Rattle.rpki_rules.specs.Reasons.{cert_tests, content_tests}

@@ -8,7 +8,8 @@ use Rattle.rpki_rules.specs.World.{World}
 
 -- The manifest's files are held as listed, these are their lookup keys, and the revocation list is the one that its
 -- certificate names.
-pub record AreParts (w : World) (ca : Cert) (k : KindValue Manifest) (keys : List (List ℕ)) (crl : Crl) : Type 0 where
+pub record AreParts (w : World) (ca : Cert) (k : KindValue Manifest) (keys : List (List ℕ))
+    (crl : Crl) : Type 0 where
   pub held : HasFiles w ca k.content
   pub keys_are : keys ≡ files ca k.content
   pub list : IsCrlOf w ca k.signed k.content crl

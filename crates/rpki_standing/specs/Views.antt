@@ -13,7 +13,13 @@ payload_of (payload.Aspa content) = OfAspa content
 
 -- The origin of one prefix: its greatest length is its own length where none is given (RFC 9582 4.3.2.2).
 abbrev pub origin_by : Kind → ℕ → RoaAddress → Origin
-origin_by kind asn a = record { kind = kind; addr = a.addr; len = a.len; max_len = max_len_or a.len a.max_len; asn = asn }
+origin_by kind asn a = record {
+  kind = kind;
+  addr = a.addr;
+  len = a.len;
+  max_len = max_len_or a.len a.max_len;
+  asn = asn;
+}
 
 -- What was there stands in front, with more after it or nothing.
 abbrev pub Extends : {X : Type 0} → List X → List X → Type 0

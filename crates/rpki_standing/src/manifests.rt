@@ -1,10 +1,10 @@
 //! The manifest of an authority (RFC 9286 6.2, 6.3).
 
-ghost use Rattle.std.specs.Prelude.{◌≡◌, ◌↔◌, ◌+◌, ◌≤◌, IfErr, IfOk, IsTrue, [], ◌∷◌};
-ghost use Rattle.rpki_standing.specs.certs_key.Digesting.{digests_of};
+ghost use Rattle.std.specs.Prelude.{◌↔◌, ◌+◌, ◌≤◌, IfErr, IfOk, IsTrue, [], ◌∷◌};
 ghost use Rattle.rpki_standing.specs.Crls.{Finds};
 ghost use Rattle.rpki_standing.specs.Manifests.{FindsManifest, IsOwnManifest, IsReadIn};
 ghost use Rattle.rpki_standing.specs.PointFaults.{FailsUnheld, own_tests};
+ghost use Rattle.rpki_standing.specs.Readers.{SameReader, world_by};
 ghost use Rattle.rpki_standing.specs.Tests.{Tells};
 ghost use Rattle.rpki_rules.specs.Certs.{Cert as CertValue, Digests, Verdicts};
 ghost use Rattle.rpki_rules.specs.PointReasons.{NextUpdate, PassesManifest, ThisUpdate};
@@ -12,6 +12,7 @@ ghost use Rattle.rpki_rules.specs.ReasonViews.{manifest_test_of};
 ghost use Rattle.rpki_rules.specs.World.{world_of};
 
 use crate::points::decode::DecodeError;
+use crate::reader::BundleReader;
 use crate::signed::{Cert, Digester, Verifier, check_content, check_object_cert};
 use crate::table::Index;
 use bytes::Bytes;
@@ -89,23 +90,21 @@ fn check_own<D: Digester, V: Verifier>(
     alloc: Global,
     manifest: &Manifest,
     ca: &Cert,
-    index: &Index<'_>,
-    digester: &D,
-    verifier: &mut V,
+    reader: &mut BundleReader<'_, D, V>,
 ) -> Result<Result<(), ManifestTest>, AllocError>
-    ensures told { IfOk result (Tells manifest_test_of (PassesManifest (world_of
-        (digests_of D.sha256_digest D.sha1_digest digester.now) (V.says verifier.old) index.now)
+    ensures told { IfOk result (Tells manifest_test_of
+        (PassesManifest (world_by D.sha256_digest D.sha1_digest V.says reader.old)
         ca.now manifest.now.signed manifest.now.content) own_tests) }
-    ensures same { V.says verifier.new ≡ V.says verifier.old }
-    ensures asked { V.count verifier.new ≤ V.count verifier.old + 2 }
+    ensures same { SameReader V.says reader.old reader.new }
+    ensures asked { V.count reader.new.verifier.now ≤ V.count reader.old.verifier.now + 2 }
 {
-    if let Err(test) = check_updates(manifest, index) {
+    if let Err(test) = check_updates(manifest, &reader.index) {
         return Ok(Err(test));
     }
-    if let Err(test) = check_object_cert(manifest.cert(), ca, index, digester, verifier) {
+    if let Err(test) = check_object_cert(manifest.cert(), ca, reader) {
         return Ok(Err(ManifestTest::ManifestCert(test)));
     }
-    match check_content(alloc, manifest.signed(), digester, verifier)? {
+    match check_content(alloc, manifest.signed(), reader.digester, reader.verifier)? {
         Ok(()) => Ok(Ok(())),
         Err(test) => Ok(Err(ManifestTest::ManifestContent(test))),
     }
@@ -117,24 +116,20 @@ fn check_own<D: Digester, V: Verifier>(
 pub fn find_manifest<D: Digester, V: Verifier>(
     alloc: Global,
     ca: &Cert,
-    index: &Index<'_>,
-    digester: &D,
-    verifier: &mut V,
+    reader: &mut BundleReader<'_, D, V>,
 ) -> Result<Result<Manifest, PointReason>, AllocError>
-    ensures found { IfOk result (λ told. IfOk told (IsOwnManifest (world_of
-        (digests_of D.sha256_digest D.sha1_digest digester.now) (V.says verifier.old) index.now)
-        ca.now)) }
-    ensures refused { IfOk result (λ told. IfErr told (FailsUnheld (world_of
-        (digests_of D.sha256_digest D.sha1_digest digester.now) (V.says verifier.old) index.now)
-        ca.now)) }
-    ensures same { V.says verifier.new ≡ V.says verifier.old }
-    ensures asked { V.count verifier.new ≤ V.count verifier.old + 2 }
+    ensures found { IfOk result (λ told. IfOk told
+        (IsOwnManifest (world_by D.sha256_digest D.sha1_digest V.says reader.old) ca.now)) }
+    ensures refused { IfOk result (λ told. IfErr told
+        (FailsUnheld (world_by D.sha256_digest D.sha1_digest V.says reader.old) ca.now)) }
+    ensures same { SameReader V.says reader.old reader.new }
+    ensures asked { V.count reader.new.verifier.now ≤ V.count reader.old.verifier.now + 2 }
 {
-    let manifest = match manifest_at(alloc, ca, index)? {
+    let manifest = match manifest_at(alloc, ca, &reader.index)? {
         Ok(manifest) => manifest,
         Err(reason) => return Ok(Err(reason)),
     };
-    match check_own(alloc, &manifest, ca, index, digester, verifier) {
+    match check_own(alloc, &manifest, ca, reader) {
         Ok(Ok(())) => Ok(Ok(manifest)),
         Ok(Err(test)) => {
             drop(manifest);

@@ -1,16 +1,15 @@
 //! What stands at a publication point.
 
 ghost use Rattle.std.specs.Prelude.{◌≡◌, ◌+◌, ◌≤◌, IfErr, IfOk, option_copied};
-ghost use Rattle.rpki_standing.specs.certs_key.Digesting.{digests_of};
-ghost use Rattle.rpki_rules.specs.World.{world_of};
 ghost use Rattle.rpki_standing.specs.PointFaults.{FailsUnheld};
+ghost use Rattle.rpki_standing.specs.Readers.{SameReader, world_by};
 ghost use Rattle.rpki_standing.specs.Standing.{IsStanding};
 
 use crate::manifests::find_manifest;
 use crate::parts::find_parts;
 use crate::points::{Crl, Rsync};
+use crate::reader::BundleReader;
 use crate::signed::{Cert, Digester, Verifier};
-use crate::table::Index;
 use bytes::Bytes;
 use objects_valid::kinds::{Manifest, ManifestContent};
 use rpki_rules::reason::PointReason;
@@ -100,24 +99,20 @@ impl StandingPoint {
 pub fn standing_point<D: Digester, V: Verifier>(
     alloc: Global,
     ca: &Cert,
-    index: &Index<'_>,
-    digester: &D,
-    verifier: &mut V,
+    reader: &mut BundleReader<'_, D, V>,
 ) -> Result<Result<StandingPoint, PointReason>, AllocError>
-    ensures found { IfOk result (λ told. IfOk told (IsStanding (world_of
-        (digests_of D.sha256_digest D.sha1_digest digester.now) (V.says verifier.old) index.now)
-        ca.now)) }
-    ensures refused { IfOk result (λ told. IfErr told (FailsUnheld (world_of
-        (digests_of D.sha256_digest D.sha1_digest digester.now) (V.says verifier.old) index.now)
-        ca.now)) }
-    ensures same { V.says verifier.new ≡ V.says verifier.old }
-    ensures asked { V.count verifier.new ≤ V.count verifier.old + 3 }
+    ensures found { IfOk result (λ told. IfOk told
+        (IsStanding (world_by D.sha256_digest D.sha1_digest V.says reader.old) ca.now)) }
+    ensures refused { IfOk result (λ told. IfErr told
+        (FailsUnheld (world_by D.sha256_digest D.sha1_digest V.says reader.old) ca.now)) }
+    ensures same { SameReader V.says reader.old reader.new }
+    ensures asked { V.count reader.new.verifier.now ≤ V.count reader.old.verifier.now + 3 }
 {
-    let manifest = match find_manifest(alloc, ca, index, digester, verifier)? {
+    let manifest = match find_manifest(alloc, ca, reader)? {
         Ok(manifest) => manifest,
         Err(reason) => return Ok(Err(reason)),
     };
-    match find_parts(alloc, ca, &manifest, index, digester, verifier) {
+    match find_parts(alloc, ca, &manifest, reader) {
         Ok(Ok((keys, crl))) => Ok(Ok(StandingPoint {
             manifest,
             keys,

@@ -1,5 +1,5 @@
 -- What a locator leads to, by the first object that is there.
-use Rattle.std.proofs.Common.{◌≡◌, ◌<◌, ℕ, List, [], length, get_or, Option, None, Result, Ok, Err, refl, sym, ap, ◌∙◌, subst}
+use Rattle.std.proofs.Common.{◌≡◌, ◌<◌, ℕ, List, [], length, get_or, slice_index_or, None, Result, Ok, Err, refl, sym, ap, ◌∙◌, subst}
 use Rattle.std.proofs.lemmas.List.{get_or_read}
 use Rattle.std.specs.Prelude.{IfOk, String}
 use Rattle.std.specs.declared.alloc.Global.{Global}
@@ -22,8 +22,7 @@ use Rattle.rpki_rules.specs.Points.{IsAnchorCert}
 use Rattle.rpki_rules.specs.TestLaws.{LeadsNowhere, RefusesLocator}
 use Rattle.rpki_rules.specs.World.{World}
 use Rattle.rpki_walk.specs.Asked.{HasLocatorReason}
-use Rattle.rpki_walk.specs.Repository.{HasListed, IsAnchorLookup, LeadsTo, locator_at}
-use Rattle.rpki_walk.specs.declared.repository.AnchorLookup.{AnchorLookup}
+use Rattle.rpki_walk.specs.Repository.{HasListed, IsAnchorLookup, LeadsTo}
 use Rattle.rpki_walk.specs.declared.repository.AnchorLookup.TheVariants as To
 use Rattle.rpki_steps.specs.Anchors.{FindsAnchorIn, IsAnchorIn, IsFoundThere, JudgesLocator}
 
@@ -94,17 +93,10 @@ module _ (w : World) (l : Locator) where
       refuted NoCert n = led n
       refuted (BadAnchor t) n = led n
 
--- The locator at a place.
-pub locator_there : (w : World) (at : ℕ) (ls : List Locator) (l : Locator) → ls ≡ w.locators → at < length w.locators → l ≡ get_or ls at l → l ≡ locator_at w at
-locator_there w at ls l same inside is =
+-- What is said of the locator that was read at a place is said of the one that stands there.
+pub placed : {X E : Type 0} (P : Locator → X → Type 0) (all ls : List Locator) (at : ℕ) (l : Locator) (r : Result X E) → ls ≡ all → at < length all → l ≡ get_or ls at l
+    → IfOk r (P l) → IfOk r (P (slice_index_or all at (record { name = []; text = [] })))
+placed P all ls at l r same inside is h =
     let none : Locator = record { name = []; text = [] } in
-    let here : l ≡ get_or w.locators at l = subst (λ (xs : List Locator). l ≡ get_or xs at l) same is in
-    get_or_read w.locators at l inside here none
-
-pub place_led : {E : Type 0} (w : World) (at : ℕ) (ls : List Locator) (l : Locator) (r : Result (AnchorLookup ResourceCertValue) E) → ls ≡ w.locators → at < length w.locators → l ≡ get_or ls at l
-    → IfOk r (IsAnchorLookup cert_of sets_of w l) → IfOk r (IsAnchorLookup cert_of sets_of w (locator_at w at))
-place_led w at ls l r same inside is h = subst (λ (x : Locator). IfOk r (IsAnchorLookup cert_of sets_of w x)) (locator_there w at ls l same inside is) h
-
-pub place_told : {E : Type 0} (w : World) (at : ℕ) (ls : List Locator) (l : Locator) (r : Result (Option LocatorReason) E) → ls ≡ w.locators → at < length w.locators → l ≡ get_or ls at l
-    → IfOk r (HasLocatorReason w l) → IfOk r (HasLocatorReason w (locator_at w at))
-place_told w at ls l r same inside is h = subst (λ (x : Locator). IfOk r (HasLocatorReason w x)) (locator_there w at ls l same inside is) h
+    let here : l ≡ get_or all at l = subst (λ (xs : List Locator). l ≡ get_or xs at l) same is in
+    subst (λ (x : Locator). IfOk r (P x)) (get_or_read all at l inside here none) h

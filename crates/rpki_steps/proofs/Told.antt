@@ -3,7 +3,7 @@ use Rattle.std.proofs.Common.{◌≡◌, ◌∙◌, ℕ, List, [], ◌∷◌, ma
 use Rattle.rpki_standing.specs.certs_basics.Paths.{join}
 use Rattle.rpki_standing.specs.certs_basics.Uris.{lookup_key}
 use Rattle.rpki_rules.specs.Objects.{File as Listed}
-use Rattle.rpki_rules.specs.Points.{IsHeld, files, files_in}
+use Rattle.rpki_rules.specs.Points.{IsHeld, files_in}
 use Rattle.rpki_rules.specs.Words.{Each}
 use Rattle.rpki_rules.specs.World.{World}
 use Rattle.rpki_steps.specs.declared.point.files.File.{File}

@@ -23,3 +23,4 @@ pub use Rattle.rpki_walk.specs.resources_chain as resources_chain
 pub use Rattle.rpki_walk.specs.resources as resources
 pub use Rattle.rpki_walk.specs as rpki_walk
 pub use Rattle.rpki_judge.specs as rpki_judge
+pub use Rattle.rpki_standing.specs as rpki_standing

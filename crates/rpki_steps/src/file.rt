@@ -1,12 +1,11 @@
 //! What a file of a publication point is (RFC 6481 2.2).
 
-ghost use Rattle.std.specs.Prelude.{◌≡◌, ◌↔◌, IfOk, IsTrue};
+ghost use Rattle.std.specs.Prelude.{◌↔◌, IfOk, IsTrue};
 ghost use Rattle.rpki_steps.specs.Holders.{cert_of, sets_of};
-ghost use Rattle.rpki_steps.specs.certs_key.Digesting.{digests_of};
 ghost use Rattle.rpki_rules.specs.Kinds.{InSet};
 ghost use Rattle.rpki_rules.specs.Points.{files};
 ghost use Rattle.rpki_rules.specs.Words.{Mem};
-ghost use Rattle.rpki_rules.specs.World.{world_of};
+ghost use Rattle.rpki_standing.specs.Readers.{SameReader, world_by};
 ghost use Rattle.rpki_walk.specs.Asked.{HasFileReason};
 ghost use Rattle.rpki_steps.specs.Files.{IsFile, JudgesFile, TellsChain};
 
@@ -16,10 +15,9 @@ use crate::object::payload::judged_payload_file;
 use bytes::Bytes;
 use certs_verify::{Digester, Verifier};
 use rpki_rules::reason::FileReason;
-use rpki_standing::StandingPoint;
 use rpki_standing::payloads::{Extension, Payload, extension_of};
 use rpki_standing::points::is_listed;
-use rpki_standing::table::Index;
+use rpki_standing::{BundleReader, StandingPoint};
 use rpki_walk::FileKind;
 use std::alloc::{AllocError, Global};
 
@@ -30,27 +28,18 @@ pub fn judged_file<D: Digester, V: Verifier>(
     ca: &Authority,
     point: &StandingPoint,
     uri: &[u8],
-    index: &Index<'_>,
-    digester: &D,
-    verifier: &mut V,
+    reader: &mut BundleReader<'_, D, V>,
 ) -> Result<Result<FileKind<Authority, Payload>, FileReason>, AllocError>
     ensures judged { IfOk result (λ judged.
         Mem (files (cert_of ca.now) point.now.point.manifest) uri.now
-        → JudgesFile (world_of
-        (digests_of D.sha256_digest D.sha1_digest digester.now) (V.says verifier.old) index.now)
+        → JudgesFile (world_by D.sha256_digest D.sha1_digest V.says reader.old)
         ca.now point.now.point uri.now judged) }
-    ensures same { V.says verifier.new ≡ V.says verifier.old }
+    ensures same { SameReader V.says reader.old reader.new }
 {
     match extension_of(uri) {
-        Some(Extension::Cer) => {
-            judged_cert_file(alloc, ca, point, uri, index, digester, verifier)
-        }
-        Some(Extension::Roa) => {
-            judged_payload_file(alloc, ca, point, uri, index, digester, verifier)
-        }
-        Some(Extension::Asa) => {
-            judged_payload_file(alloc, ca, point, uri, index, digester, verifier)
-        }
+        Some(Extension::Cer) => judged_cert_file(alloc, ca, point, uri, reader),
+        Some(Extension::Roa) => judged_payload_file(alloc, ca, point, uri, reader),
+        Some(Extension::Asa) => judged_payload_file(alloc, ca, point, uri, reader),
         None => Ok(Ok(FileKind::Nothing)),
     }
 }
@@ -62,18 +51,15 @@ pub fn read_file<D: Digester, V: Verifier>(
     ca: &Authority,
     point: &StandingPoint,
     uri: &[u8],
-    index: &Index<'_>,
-    digester: &D,
-    verifier: &mut V,
+    reader: &mut BundleReader<'_, D, V>,
 ) -> Result<FileKind<Authority, Payload>, AllocError>
     ensures filed { IfOk result (λ filed.
         Mem (files (cert_of ca.now) point.now.point.manifest) uri.now
-        → IsFile (world_of
-        (digests_of D.sha256_digest D.sha1_digest digester.now) (V.says verifier.old) index.now)
+        → IsFile (world_by D.sha256_digest D.sha1_digest V.says reader.old)
         ca.now point.now.point uri.now filed) }
-    ensures same { V.says verifier.new ≡ V.says verifier.old }
+    ensures same { SameReader V.says reader.old reader.new }
 {
-    match judged_file(alloc, ca, point, uri, index, digester, verifier)? {
+    match judged_file(alloc, ca, point, uri, reader)? {
         Ok(filed) => Ok(filed),
         Err(reason) => {
             drop(reason);
@@ -112,20 +98,17 @@ pub fn file_reason<D: Digester, V: Verifier>(
     point: &StandingPoint,
     keys: &[Bytes],
     uri: &[u8],
-    index: &Index<'_>,
-    digester: &D,
-    verifier: &mut V,
+    reader: &mut BundleReader<'_, D, V>,
 ) -> Result<Option<FileReason>, AllocError>
     ensures reason { IfOk result (λ reason.
         Mem (files (cert_of ca.now) point.now.point.manifest) uri.now
-        → HasFileReason (world_of
-        (digests_of D.sha256_digest D.sha1_digest digester.now) (V.says verifier.old) index.now)
+        → HasFileReason (world_by D.sha256_digest D.sha1_digest V.says reader.old)
         (InSet (sets_of ca.now)) keys.now (cert_of ca.now) point.now.point uri.now reason) }
-    ensures same { V.says verifier.new ≡ V.says verifier.old }
+    ensures same { SameReader V.says reader.old reader.new }
 {
-    match judged_file(alloc, ca, point, uri, index, digester, verifier)? {
+    match judged_file(alloc, ca, point, uri, reader)? {
         Ok(FileKind::Child(child)) => {
-            let depth = usize::from(index.depth());
+            let depth = usize::from(reader.index.depth());
             let reason = chain_reason(&child, keys, depth);
             drop(child);
             Ok(reason)

@@ -17,6 +17,7 @@ pub mod whole;
 pub use authority::Authority;
 pub use repository::BundleRepository;
 pub use rpki_judge::{Judgement, judge};
+pub use rpki_standing::reader::BundleReader;
 pub use rpki_standing::table::{Index, TableVerifier};
 pub use rpki_walk::cost::{Cost, Count, cost};
 pub use rpki_walk::reach::whole::reach;

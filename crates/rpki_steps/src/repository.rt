@@ -3,8 +3,7 @@
 
 ghost use Rattle.std.specs.Prelude.{◌≡◌};
 ghost use Rattle.rpki_steps.specs.Holders.{cert_of, sets_of};
-ghost use Rattle.rpki_steps.specs.certs_key.Digesting.{digests_of};
-ghost use Rattle.rpki_rules.specs.World.{world_of};
+ghost use Rattle.rpki_standing.specs.Readers.{world_by};
 ghost use Rattle.rpki_standing.specs.Views.{payload_of};
 ghost use Rattle.rpki_steps.specs.Points.{point_of};
 
@@ -18,36 +17,29 @@ use crate::file::read_file;
 use crate::point::held::find_point;
 use bytes::Bytes;
 use certs_verify::{Digester, Verifier};
-use rpki_standing::StandingPoint;
 use rpki_standing::payloads::{Origin, Payload, Provision};
 use rpki_standing::table::Index;
+use rpki_standing::{BundleReader, StandingPoint};
 use rpki_walk::{AnchorLookup, FileKind, Repository};
 use std::alloc::{AllocError, Global};
 
 /// A bundle with a digester and a verifier: what the walk and the judge ask of it is read of its objects.
 #[derive(Drop)]
 pub struct BundleRepository<'a, D: Digester, V: Verifier> {
-    /// The bundle.
-    pub index: Index<'a>,
-    /// What digests are made by.
-    pub digester: &'a D,
-    /// What says which signatures are good.
-    pub verifier: &'a mut V,
+    /// The bundle as it is read.
+    pub reader: BundleReader<'a, D, V>,
 }
 
 impl<'a, D: Digester, V: Verifier> BundleRepository<'a, D, V> {
     /// The bundle, with this digester and this verifier, which is asked through it as long as it is lent.
     pub fn new(index: Index<'a>, digester: &'a D, verifier: &'a mut V) -> Self
-        ensures index { result.index ≡ index.entry }
-        ensures digester { result.digester.now ≡ digester.now }
-        ensures verifier { result.verifier.now ≡ verifier.old }
-        ensures lender { result.verifier.ghost_name ≡ verifier.entry.ghost_name }
+        ensures index { result.reader.index ≡ index.entry }
+        ensures digester { result.reader.digester.now ≡ digester.now }
+        ensures verifier { result.reader.verifier.now ≡ verifier.old }
+        ensures lender { result.reader.verifier.ghost_name ≡ verifier.entry.ghost_name }
     {
-        BundleRepository {
-            index,
-            digester,
-            verifier,
-        }
+        let reader = BundleReader::new(index, digester, verifier);
+        BundleRepository { reader }
     }
 }
 
@@ -58,10 +50,9 @@ impl<'a, D: Digester, V: Verifier> Repository for BundleRepository<'a, D, V> {
 
     type Payload = Payload;
 
-    ghost world = { λ s. world_of (digests_of D.sha256_digest D.sha1_digest s.digester.now)
-        (V.says s.verifier.now) s.index };
+    ghost world = { λ s. world_by D.sha256_digest D.sha1_digest V.says s.reader };
 
-    ghost lender = { λ s. s.verifier.ghost_name };
+    ghost lender = { λ s. s.reader.verifier.ghost_name };
 
     ghost cert = { cert_of };
 
@@ -74,17 +65,17 @@ impl<'a, D: Digester, V: Verifier> Repository for BundleRepository<'a, D, V> {
     ghost payload = { payload_of };
 
     fn depth(&self) -> usize {
-        usize::from(self.index.depth())
+        usize::from(self.reader.index.depth())
     }
 
     fn locator_count(&self) -> usize {
         // So a chain may have an anchor.
-        let _ = self.index.depth();
-        self.index.locators().len()
+        let _ = self.reader.index.depth();
+        self.reader.index.locators().len()
     }
 
     fn locator_name(&self, at: usize) -> Result<Bytes, AllocError> {
-        self.index.locators()[at].name.clone()
+        self.reader.index.locators()[at].name.clone()
     }
 
     fn read_locator(
@@ -92,8 +83,8 @@ impl<'a, D: Digester, V: Verifier> Repository for BundleRepository<'a, D, V> {
         alloc: Global,
         at: usize,
     ) -> Result<AnchorLookup<Authority>, AllocError> {
-        let locator = &self.index.locators()[at];
-        read_locator(alloc, locator, &self.index, self.digester, self.verifier)
+        let locator = &self.reader.index.locators()[at];
+        read_locator(alloc, locator, &mut self.reader)
     }
 
     fn key_identifier(&self, alloc: Global, ca: &Authority) -> Result<Bytes, AllocError> {
@@ -106,13 +97,7 @@ impl<'a, D: Digester, V: Verifier> Repository for BundleRepository<'a, D, V> {
         alloc: Global,
         ca: &Authority,
     ) -> Result<Option<StandingPoint>, AllocError> {
-        find_point(
-            alloc,
-            ca.verified(),
-            &self.index,
-            self.digester,
-            self.verifier,
-        )
+        find_point(alloc, ca.verified(), &mut self.reader)
     }
 
     fn uris<'p>(&self, _ca: &Authority, p: &'p StandingPoint) -> &'p [Bytes] {
@@ -126,7 +111,7 @@ impl<'a, D: Digester, V: Verifier> Repository for BundleRepository<'a, D, V> {
         p: &StandingPoint,
         uri: &[u8],
     ) -> Result<FileKind<Authority, Payload>, AllocError> {
-        read_file(alloc, ca, p, uri, &self.index, self.digester, self.verifier)
+        read_file(alloc, ca, p, uri, &mut self.reader)
     }
 
     fn add_origins(&self, object: &Payload, out: &mut Vec<Origin>) -> Result<(), AllocError> {

@@ -1,5 +1,4 @@
 mod Pieces
-pub mod Ends
 pub mod Options
 mod Forging
 mod Judging

@@ -42,19 +42,22 @@ pub record HasText (d : Digests) (before after : Option (List ℕ)) (text : List
   pub output : IsOutput (run_world d bundle) text
 
 -- All of the text was written,
-pub record Prints (d : Digests) (read_before read_after written_before written_after : Option (List ℕ)) : Type 0 where
+pub record Prints (d : Digests)
+    (read_before read_after written_before written_after : Option (List ℕ)) : Type 0 where
   pub text : List ℕ
   pub has : HasText d read_before read_after text
   pub written : Appends written_before written_after text
 
 -- or a front of it that lacks something.
-pub record StopsPrinting (d : Digests) (read_before read_after written_before written_after : Option (List ℕ)) : Type 0 where
+pub record StopsPrinting (d : Digests)
+    (read_before read_after written_before written_after : Option (List ℕ)) : Type 0 where
   pub text : List ℕ
   pub has : HasText d read_before read_after text
   pub written : TakesSome written_before written_after text
 
 -- What each refusal says of what was read and of what was written.
-abbrev pub RunFails : Digests → RunError → Option (List ℕ) → Option (List ℕ) → Option (List ℕ) → Option (List ℕ) → Type 0
+abbrev pub RunFails : Digests → RunError → Option (List ℕ) → Option (List ℕ) → Option (List ℕ)
+    → Option (List ℕ) → Type 0
 RunFails d errors.Read r r' w w' = ReadsSome r r' × Keeps w w'
 RunFails d errors.NotABundle r r' w w' = ReadsNoBundle r r' × Keeps w w'
 RunFails d errors.Write r r' w w' = StopsPrinting d r r' w w'

@@ -10,6 +10,7 @@ ghost use Rattle.rpki_rules.specs.Report.{IsReport};
 ghost use Rattle.rpki_rules.specs.Views.{witness_of, path_of};
 ghost use Rattle.rpki_validator.specs.rpki_walk.Chained.{AreNamingChains};
 ghost use Rattle.rpki_validator.specs.rpki_walk.Cost.{IsCost};
+ghost use Rattle.rpki_steps.specs.rpki_standing.Readers.{world_by};
 ghost use Rattle.rpki_steps.specs.rpki_judge.Counted.{ReadsPoints, may_ask_reading};
 ghost use Rattle.rpki_validator.specs.rpki_walk.Naming.{answer_of};
 ghost use Rattle.rpki_validator.specs.rpki_walk.Printed.{AreLines};
@@ -38,11 +39,7 @@ pub fn walk<D: Digester, V: Verifier>(
     let mut repository = BundleRepository::new(Index::new(bundle), digester, verifier);
     let report = rpki_steps::walk(alloc, &mut repository);
     // So the caller's verifier is the one that was asked.
-    let BundleRepository {
-        verifier: asked,
-        ..
-    } = repository;
-    let _asked = asked;
+    let _asked = repository.reader.verifier;
     report
 }
 
@@ -63,11 +60,7 @@ pub fn walk_lines<D: Digester, V: Verifier>(
     let mut repository = BundleRepository::new(Index::new(bundle), digester, verifier);
     let report = rpki_steps::walk_lines(alloc, &mut repository);
     // So the caller's verifier is the one that was asked.
-    let BundleRepository {
-        verifier: asked,
-        ..
-    } = repository;
-    let _asked = asked;
+    let _asked = repository.reader.verifier;
     report
 }
 
@@ -88,11 +81,7 @@ pub fn diagnose<D: Digester, V: Verifier>(
     let mut repository = BundleRepository::new(Index::new(bundle), digester, verifier);
     let diagnosed = rpki_steps::diagnose(alloc, &mut repository);
     // So the caller's verifier is the one that was asked.
-    let BundleRepository {
-        verifier: asked,
-        ..
-    } = repository;
-    let _asked = asked;
+    let _asked = repository.reader.verifier;
     diagnosed
 }
 
@@ -105,25 +94,23 @@ pub fn judge_by<D: Digester, V: Verifier>(
     evidence: &mut BundleRepository<'_, D, V>,
     witness: &Witness,
 ) -> Result<Judgement, AllocError>
-    ensures judged { IfOk result (λ j. IsJudged (world_of
-        (digests_of D.sha256_digest D.sha1_digest evidence.old.digester.now)
-        (V.says evidence.old.verifier.now) evidence.old.index) (witness_of witness.now) j.yes
-        j.points) }
-    ensures read { IfOk result (λ j. ReadsPoints (world_of
-        (digests_of D.sha256_digest D.sha1_digest evidence.old.digester.now)
-        (V.says evidence.old.verifier.now) evidence.old.index) (witness_of witness.now) j.points) }
-    ensures asked { V.count evidence.new.verifier.now ≤ V.count evidence.old.verifier.now
+    ensures judged { IfOk result (λ j. IsJudged
+        (world_by D.sha256_digest D.sha1_digest V.says evidence.old.reader)
+        (witness_of witness.now) j.yes j.points) }
+    ensures read { IfOk result (λ j. ReadsPoints
+        (world_by D.sha256_digest D.sha1_digest V.says evidence.old.reader)
+        (witness_of witness.now) j.points) }
+    ensures asked { V.count evidence.new.reader.verifier.now
+        ≤ V.count evidence.old.reader.verifier.now
         + may_ask (length (witness_of witness.now).chain) }
-    ensures asked_reading { IfOk result (λ j. V.count evidence.new.verifier.now
-        ≤ V.count evidence.old.verifier.now + may_ask_reading j.points) }
-    ensures same { V.says evidence.new.verifier.now ≡ V.says evidence.old.verifier.now }
-    ensures same_world { world_of
-        (digests_of D.sha256_digest D.sha1_digest evidence.new.digester.now)
-        (V.says evidence.new.verifier.now) evidence.new.index ≡ world_of
-        (digests_of D.sha256_digest D.sha1_digest evidence.old.digester.now)
-        (V.says evidence.old.verifier.now) evidence.old.index }
-    ensures same_verifier { evidence.new.verifier.ghost_name
-        ≡ evidence.old.verifier.ghost_name }
+    ensures asked_reading { IfOk result (λ j. V.count evidence.new.reader.verifier.now
+        ≤ V.count evidence.old.reader.verifier.now + may_ask_reading j.points) }
+    ensures same { V.says evidence.new.reader.verifier.now
+        ≡ V.says evidence.old.reader.verifier.now }
+    ensures same_world { world_by D.sha256_digest D.sha1_digest V.says evidence.new.reader
+        ≡ world_by D.sha256_digest D.sha1_digest V.says evidence.old.reader }
+    ensures same_verifier { evidence.new.reader.verifier.ghost_name
+        ≡ evidence.old.reader.verifier.ghost_name }
 {
     let locator = witness.locator().as_slice();
     let object = witness.object().as_slice();
@@ -156,11 +143,7 @@ pub fn judge<D: Digester, V: Verifier>(
     let mut evidence = BundleRepository::new(Index::new(bundle), digester, verifier);
     let judged = judge_by(alloc, &mut evidence, witness);
     // So the caller's verifier is the one that was asked.
-    let BundleRepository {
-        verifier: asked,
-        ..
-    } = evidence;
-    let _asked = asked;
+    let _asked = evidence.reader.verifier;
     judged
 }
 
@@ -181,11 +164,7 @@ pub fn reach<D: Digester, V: Verifier>(
     let mut repository = BundleRepository::new(Index::new(bundle), digester, verifier);
     let reached = rpki_steps::reach(alloc, &mut repository, uris);
     // So the caller's verifier is the one that was asked.
-    let BundleRepository {
-        verifier: asked,
-        ..
-    } = repository;
-    let _asked = asked;
+    let _asked = repository.reader.verifier;
     reached
 }
 
@@ -206,11 +185,7 @@ pub fn naming_chains<D: Digester, V: Verifier>(
     let mut repository = BundleRepository::new(Index::new(bundle), digester, verifier);
     let chains = rpki_steps::naming_chains(alloc, &mut repository, uris);
     // So the caller's verifier is the one that was asked.
-    let BundleRepository {
-        verifier: asked,
-        ..
-    } = repository;
-    let _asked = asked;
+    let _asked = repository.reader.verifier;
     chains
 }
 
@@ -231,10 +206,6 @@ pub fn cost<D: Digester, V: Verifier>(
     let mut repository = BundleRepository::new(Index::new(bundle), digester, verifier);
     let counted = rpki_steps::cost(alloc, &mut repository, budget);
     // So the caller's verifier is the one that was asked.
-    let BundleRepository {
-        verifier: asked,
-        ..
-    } = repository;
-    let _asked = asked;
+    let _asked = repository.reader.verifier;
     counted
 }

@@ -19,7 +19,8 @@ pub use rpki_rules::refusal::word_of;
 pub use rpki_rules::{Cause, Customer, Origin, Path, Refusal, Report, Witness, reason};
 pub use rpki_steps::point::{File, Point, point, point_unheld};
 pub use rpki_steps::{
-    BundleRepository, Cost, Count, Index, Judgement, Reach, ResourceSet, TableVerifier,
+    BundleReader, BundleRepository, Cost, Count, Index, Judgement, Reach, ResourceSet,
+    TableVerifier,
 };
 pub use runs::{RunError, read_bundle, run};
 pub use streams::{WriteFault, write_all};

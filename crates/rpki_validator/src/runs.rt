@@ -6,7 +6,7 @@ ghost use Rattle.rpki_validator.specs.rpki_bundle.Bundle.{BundleText};
 ghost use Rattle.rpki_validator.specs.rpki_rules.Output.{IsOutput};
 ghost use Rattle.rpki_validator.specs.rpki_rules.World.{World, run_world};
 ghost use Rattle.rpki_validator.specs.rpki_walk.Printed.{AreLines};
-ghost use Rattle.rpki_validator.specs.Run.{BundleFails, IsNoBundle, ReadsBundle, CountsReads, CountsWrites, Prints, RunFails};
+ghost use Rattle.rpki_validator.specs.Run.{BundleFails, IsNoBundle, ReadsBundle, ReadsSome, CountsReads, CountsWrites, Prints, RunFails};
 ghost use Rattle.rpki_validator.specs.declared.runs.RunError.TheVariants.{Memory as memory_error};
 
 use crate::bundles::walk_lines;
@@ -93,6 +93,8 @@ pub fn read_bundle<R: Read>(alloc: Global, reader: &mut Counted<R>) -> Result<Bu
 
     ensures ok { IfOk result (ReadsBundle (R.remaining reader.old.inner)
         (R.remaining reader.new.inner)) }
+    ensures some { IfOk result (λ _. ReadsSome (R.remaining reader.old.inner)
+        (R.remaining reader.new.inner)) }
     ensures refused { IfErr result (λ e. BundleFails e (R.remaining reader.old.inner)
         (R.remaining reader.new.inner)) }
     ensures reads { CountsReads result reader.old.failures reader.new.failures }
@@ -131,16 +133,8 @@ pub fn run<R: Read, W: Write, D: Digester>(
     ensures reads { CountsReads result reader.old.failures reader.new.failures }
     ensures writes { CountsWrites result writer.old.failures writer.new.failures }
 {
-    // So a bundle that was read has fewer octets than where reading stops.
-    bundle_length();
-    let bundle = match read_bundle(alloc, reader) {
-        Ok(bundle) => bundle,
-        Err(error) => return Err(error),
-    };
-    let text = match output_of(alloc, &bundle, digester) {
-        Ok(text) => text,
-        Err(_) => return Err(RunError::Memory),
-    };
+    let bundle = read_bundle(alloc, reader)?;
+    let text = output_of(alloc, &bundle, digester)?;
     match write_all(writer, text.as_slice()) {
         Ok(()) => Ok(()),
         Err(_) => Err(RunError::Write),

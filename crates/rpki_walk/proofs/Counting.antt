@@ -22,7 +22,7 @@ use Rattle.rpki_walk.proofs.Walked.{ignored_issued, good_issued}
 use Rattle.rpki_walk.proofs.Findings.{stands_to}
 use Rattle.rpki_walk.proofs.Below.{refused_ends, no_longer, goes_on, stand}
 use Rattle.rpki_walk.proofs.Begins.{above_apart, accepted_so, begins_longer, begins_none, begins_one, begins_point, begins_up, here, here_begins}
-use Rattle.rpki_walk.proofs.Tallies.{UpTo, apart_take, fresh, map_same, tallies_same}
+use Rattle.rpki_walk.proofs.Tallies.{UpTo, apart_take, fresh, map_same, tallies_next, tallies_none, tallies_same}
 
 how_many_short : (uri : List ℕ) (chains : List Chain) → how_many uri chains ≤ length chains
 how_many_short uri chains = omega (arith, length-filter (goes_below uri) chains, count_by-le-length (goes_below uri) chains)
@@ -174,3 +174,18 @@ module _ {A P : Type 0} (cert : A → Cert) (sets : A → Resources) (payload : 
         (goes_on cert sets payload w w' same name a cs on uri ca csets st p p0 s s0 file acc o child key e cl listed more em)
         seen tally (λ c b. unseen c (cert child, b)) in
         tallies_same (Begins w name a (next ∷ cs)) (BeginsAt w name a cs file) seen new whole t (λ c b. (cert child, b)) one_child
+
+-- What is counted of the files of a point so far, whichever accepted chain the variables stand for.
+abbrev pub CountsFiles : World → List (List ℕ) → List (List ℕ) → List ℕ → Cert → Resources → Tally → List (List ℕ) → Tally → Type 0
+CountsFiles w up on uri ca sets old fs new =
+    (name : List ℕ) (a : Link) (cs : List Link) → Stand name a cs (record { locator = name; chain = places a cs }) on uri ca sets → up ≡ above a cs → Accepted w name a cs
+    → (seen : List Chain) → IsTally old seen → ((c : Chain) → Begins w name a cs c → ¬ (Mem seen c)) → Tallies (UpTo (λ c. here w name a cs ≡ c) (BeginsAt w name a cs) fs) seen new true
+
+-- A file with which no chain goes on.
+pub file_ended : {A P : Type 0} (cert : A → Cert) (sets : A → Resources) (payload : P → Payload) (w w' : World) → w' ≡ w → (up on : List (List ℕ)) (uri : List ℕ) (ca : Cert) (csets : Resources) (p : Point) → StandsIn w (InSet csets) ca p → (fs : List (List ℕ)) (i : ℕ) (d : List ℕ) → i < length fs
+    → (o : Outcome A P) → Classified cert sets payload w' (InSet csets) ca p on (get_or fs i d) o → (old mid : Tally) → CountsFiles w up on uri ca csets old (take i fs) mid → (new : Tally) → new ≡ mid → ((x : A) (k : List ℕ) → ¬ (o ≡ Does.Child x k)) → CountsFiles w up on uri ca csets old (take (i + 1) fs) new
+file_ended cert sets payload w w' same up on uri ca csets p s fs i d l o cl old mid before new e n name a cs st eu acc seen k unseen =
+    let t = before name a cs st eu acc seen k unseen in
+    subst (λ (q : Tally). Tallies (UpTo (λ c. here w name a cs ≡ c) (BeginsAt w name a cs) (take (i + 1) fs)) seen q true) (sym e)
+    (tallies_next (λ c. here w name a cs ≡ c) (BeginsAt w name a cs) fs i d l seen mid t mid
+    (tallies_none (BeginsAt w name a cs (get_or fs i d)) t.chains mid (no_chain cert sets payload w w' same name a cs on uri ca csets st p p s s (get_or fs i d) acc o cl n) t.tally))

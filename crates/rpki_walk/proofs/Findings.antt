@@ -1,5 +1,5 @@
 -- What files and chains tell, and what the walk gains by them.
-use Rattle.std.proofs.Common.{◌≡◌, ◌-◌, Bool, IsTrue, drop, ℕ, ◌<◌, ◌≤◌, ◌⊎◌, ◌↔◌, true, List, [], ◌∷◌, ◌++◌, length, Option, Some, None, refl, sym, ap, subst, ◌∙◌, inl, inr, arith, take, get_or}
+use Rattle.std.proofs.Common.{◌≡◌, ℕ, ◌<◌, ◌≤◌, ◌⊎◌, ◌↔◌, true, List, [], ◌∷◌, ◌++◌, length, Option, Some, None, refl, sym, ap, subst, ◌∙◌, inl, inr, arith}
 use Rattle.rpki_walk.specs.resources.Resources.{Resources}
 use Rattle.rpki_rules.specs.Certs.{Cert, ca_is_ca}
 use Rattle.rpki_rules.specs.Objects.{Object}
@@ -342,20 +342,6 @@ read_none point w held ca (Some x) n r = absurd (n x refl)
 
 pub read_some : {P : Type 0} (point : P → Point) (w : World) (held : Kind → ℕ → Type 0) (ca : Cert) (o : Option P) (x : P) → o ≡ Some x → IsRead point w held ca o → StandsIn w held ca (point x)
 read_some {P = P} point w held ca o x e r = subst (λ (y : Option P). IsRead point w held ca y) e r
-
-take_length : (xs : List (List ℕ)) → take (length xs) xs ≡ xs
-take_length [] = refl
-take_length (x ∷ xs) = ap (λ ys. x ∷ ys) (take_length xs)
-
-pub on_rest : (xs : List (List ℕ)) (k f : List ℕ) → 1 ≤ length xs → f ≡ get_or xs 0 f → ¬ (f ≡ k) → (b : Bool) → (IsTrue b ↔ Mem (take (length xs - 1) (drop 1 xs)) k) → IsTrue b ↔ Mem xs k
-on_rest [] k f l e n b h = absurd (omega arith)
-on_rest (y ∷ ys) k f l e n b h =
-    let i : length (y ∷ ys) - 1 ≡ length ys = omega arith in
-    let t : take (length (y ∷ ys) - 1) ys ≡ ys = ap (λ j. take j ys) i ∙ take_length ys in
-    let g : IsTrue b ↔ Mem ys k = subst (λ (zs : List (List ℕ)). IsTrue b ↔ Mem zs k) t h in (
-      λ q. inr (g.0 q),
-      λ m. elim m [ inl q ↦ absurd (n (e ∙ q)) | inr r ↦ g.1 r ],
-    )
 
 -- What is done with a file, and what the walk gains by it. The point that was read is the one that stands.
 module _ {A P : Type 0} (cert : A → Cert) (sets : A → Resources) (payload : P → Payload) (wants : Finding → Type 0) (uris : List (List ℕ)) (w w' : World) (same : w' ≡ w) (name : List ℕ) (a : Link) (cs : List Link) (path : PathValue) (on : List (List ℕ)) (uri : List ℕ) (ca : Cert) (csets : Resources) (st : Stand name a cs path on uri ca csets) (acc : Accepted w name a cs) (p p0 : Point) (s : StandsIn w (InSet csets) ca p) (s0 : StandsIn w (InSet csets) ca p0) (file : List ℕ) (o : Outcome A P) (cl : Classified cert sets payload w' (InSet csets) ca p0 on file o) where

@@ -2,6 +2,8 @@
 use Rattle.std.proofs.Common.{◌≡◌, ℕ, ◌+◌, ◌⊎◌, ◌↔◌, List, [], ◌∷◌, ◌++◌, map, Vec, Global, length, refl, sym, ap, subst, ◌∙◌, inl, inr}
 use Rattle.rpki_rules.specs.declared.cause.Cause.{Cause}
 use Rattle.rpki_rules.specs.declared.cause.Cause.TheVariants as cause
+use Rattle.rpki_rules.specs.Certs.{Cert}
+use Rattle.rpki_rules.specs.Kinds.{Kind}
 use Rattle.rpki_rules.specs.Words.{Mem}
 use Rattle.rpki_rules.specs.World.{World}
 use Rattle.rpki_rules.specs.Points.{Link, Point, files}
@@ -11,7 +13,7 @@ use Rattle.rpki_rules.specs.Refused.{LocatorRefused, AnchorRefused, IsFileRefuse
 use Rattle.rpki_rules.specs.Lines.{Customer, Refusal}
 use Rattle.rpki_rules.specs.Output.{AreCustomers, IsCustomer}
 use Rattle.rpki_rules.specs.Report.{ReportValue, IsReportOf, IsReport, AreCustomersOf, IsCustomerOf}
-use Rattle.rpki_rules.specs.Views.{origin_of, provision_of, refusal_of, witness_of}
+use Rattle.rpki_rules.specs.Views.{PathValue, origin_of, provision_of, refusal_of, witness_of}
 use Rattle.rpki_rules.proofs.Orders.{mem_append, each_at, each_of}
 use Rattle.rpki_rules.proofs.Groups.{map_push, customers_to}
 use Rattle.rpki_rules.specs.declared.refusal.Refusal.{Refusal as CodeRefusal}
@@ -19,7 +21,7 @@ use Rattle.rpki_rules.specs.declared.witness.Witness.{Witness as CodeWitness}
 use Rattle.rpki_rules.specs.declared.origin.Origin.{Origin as CodeOrigin}
 use Rattle.rpki_rules.specs.declared.customer.Provision.{Provision as CodeProvision}
 use Rattle.rpki_walk.specs.declared.whole.Findings.{Findings}
-use Rattle.rpki_walk.specs.Facts.{Finding, Refuses, Shows, Originates, Provides, Reaches, Chains, Diagnoses, Unheld, ShownBy, IsFinding, Gains}
+use Rattle.rpki_walk.specs.Facts.{Finding, Refuses, Shows, Originates, Provides, Reaches, Chains, Diagnoses, Unheld, ShownBy, ReachedBy, RefusedBy, IsFinding, Gains}
 use Rattle.rpki_walk.specs.Lines.{has_found, IsLine}
 use Rattle.rpki_rules.proofs.Fronts.{keys_count}
 use Rattle.rpki_walk.proofs.Mems.{mem_push}
@@ -35,56 +37,38 @@ told_by w t x g y s =
     inr (inr (t.locator, g.anchor, g.below, g.accepted, inr (inr (g.point, g.stands, t.object, g.good.is_signed.listed, inr (x, g.good, subst (λ (u : WitnessValue). ShownBy u x y) e s)))))
 
 module _ (w : World) where
-  pub told_origin : (o : Origin) → IsFinding [] w (Originates o) ↔ AttestsOrigin w o
-  told_origin o = (to, λ h. told_by w h.witness h.payload h.good (Originates o) h.one)
-    where
-      to : IsFinding [] w (Originates o) → AttestsOrigin w o
-      to (inl t) = absurd (let e = t.1 in cc)
-      to (inr (inl t)) = absurd (let e = t.1 in cc)
-      to (inr (inr t)) = elim t.4 [
-        | inl r ↦ absurd r
-        | inr u ↦ elim u [
-          | inl n ↦ absurd (let e = n.0 in cc)
-          | inr q ↦ elim q.4 [
-            | inl r ↦ absurd r
-            | inr y ↦ record { witness = record { locator = t.0; chain = places t.1 t.2; object = q.2 }; payload = y.0; good = good_of w t.0 t.1 t.2 t.3 q.0 q.1 q.2 y.0 y.1; one = y.2 }
-          ]
-        ]
+  -- Of what is no refusal, and what no chain tells by what it holds and names, a good object tells what is told.
+  shown : (x : Finding) → ((name : List ℕ) (why : Cause) → ¬ (Refuses name why ≡ x)) → ((held : Kind → ℕ → Type 0) (on : List (List ℕ)) (path : PathValue) (uri : List ℕ) (ca : Cert) → ¬ (ReachedBy [] w held on path uri ca x)) → ((held : Kind → ℕ → Type 0) (on : List (List ℕ)) (ca : Cert) (p : Point) (uri : List ℕ) → ¬ (RefusedBy w held on ca p uri x)) → IsFinding [] w x → (t : WitnessValue) × (y : Payload) × Good w t y × ShownBy t y x
+  shown x other unreached unrefused (inl t) = absurd (other t.0 cause.Tal t.1)
+  shown x other unreached unrefused (inr (inl t)) = absurd (other t.0 cause.Anchor t.1)
+  shown x other unreached unrefused (inr (inr t)) = elim t.4 [
+    | inl r ↦ absurd (unreached _ _ _ _ _ r)
+    | inr u ↦ elim u [
+      | inl n ↦ absurd (other (last_of t.1 t.2).uri cause.Point n.0)
+      | inr q ↦ elim q.4 [
+        | inl r ↦ absurd (unrefused _ _ _ _ _ r)
+        | inr y ↦ (record { locator = t.0; chain = places t.1 t.2; object = q.2 }, y.0, good_of w t.0 t.1 t.2 t.3 q.0 q.1 q.2 y.0 y.1, y.2)
       ]
+    ]
+  ]
+
+  pub told_origin : (o : Origin) → IsFinding [] w (Originates o) ↔ AttestsOrigin w o
+  told_origin o = (
+    λ f. let s = shown (Originates o) (λ n y e. let q = e in cc) (λ h on v u ca r. r) (λ h on ca p u r. r) f in record { witness = s.0; payload = s.1; good = s.2; one = s.3 },
+    λ h. told_by w h.witness h.payload h.good (Originates o) h.one,
+  )
 
   pub told_provision : (o : Provision) → IsFinding [] w (Provides o) ↔ AttestsProvision w o
-  told_provision o = (to, λ h. told_by w h.witness h.payload h.good (Provides o) h.one)
-    where
-      to : IsFinding [] w (Provides o) → AttestsProvision w o
-      to (inl t) = absurd (let e = t.1 in cc)
-      to (inr (inl t)) = absurd (let e = t.1 in cc)
-      to (inr (inr t)) = elim t.4 [
-        | inl r ↦ absurd r
-        | inr u ↦ elim u [
-          | inl n ↦ absurd (let e = n.0 in cc)
-          | inr q ↦ elim q.4 [
-            | inl r ↦ absurd r
-            | inr y ↦ record { witness = record { locator = t.0; chain = places t.1 t.2; object = q.2 }; payload = y.0; good = good_of w t.0 t.1 t.2 t.3 q.0 q.1 q.2 y.0 y.1; one = y.2 }
-          ]
-        ]
-      ]
+  told_provision o = (
+    λ f. let s = shown (Provides o) (λ n y e. let q = e in cc) (λ h on v u ca r. r) (λ h on ca p u r. r) f in record { witness = s.0; payload = s.1; good = s.2; one = s.3 },
+    λ h. told_by w h.witness h.payload h.good (Provides o) h.one,
+  )
 
   told_trace : (s : WitnessValue) → IsFinding [] w (Shows s) ↔ IsWitness w s
-  told_trace s = (to, λ h. told_by w s h.0 h.1 (Shows s) refl)
-    where
-      to : IsFinding [] w (Shows s) → IsWitness w s
-      to (inl t) = absurd (let e = t.1 in cc)
-      to (inr (inl t)) = absurd (let e = t.1 in cc)
-      to (inr (inr t)) = elim t.4 [
-        | inl r ↦ absurd r
-        | inr u ↦ elim u [
-          | inl n ↦ absurd (let e = n.0 in cc)
-          | inr q ↦ elim q.4 [
-            | inl r ↦ absurd r
-            | inr y ↦ subst (λ (v : WitnessValue). IsWitness w v) y.2 (y.0, good_of w t.0 t.1 t.2 t.3 q.0 q.1 q.2 y.0 y.1)
-          ]
-        ]
-      ]
+  told_trace s = (
+    λ f. let t = shown (Shows s) (λ n y e. let q = e in cc) (λ h on v u ca r. r) (λ h on ca p u r. r) f in subst (IsWitness w) t.3 (t.1, t.2),
+    λ h. told_by w s h.0 h.1 (Shows s) refl,
+  )
 
   pub told_refusal : (name : List ℕ) (why : Cause) → IsFinding [] w (Refuses name why) ↔ IsRefused w name why
   told_refusal name why = (to, from)

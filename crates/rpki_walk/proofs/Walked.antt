@@ -109,19 +109,21 @@ pub meets_more : (w : World) (name : List ℕ) (a : Link) (cs : List Link) (met 
 meets_more w name a cs met new sub h ds f acc c m = sub c.tbs.subject_key_identifier (h ds f acc c m)
 
 -- What was walked stays walked, where more is found and met.
+pub stays_walked : (w : World) (old new : LinesWalk) → Continues old.met.items new.met.items → ((x : Finding) → IsPrinted x → has_lines old.lines x → has_lines new.lines x) → (one : Walked) → IsWalked w old one → IsWalked w new one
+stays_walked w old new g h one k = record {
+  name = k.name;
+  anchor = k.anchor;
+  below = k.below;
+  accepted = k.accepted;
+  uri_is = k.uri_is;
+  keys_are = k.keys_are;
+  holds = k.holds;
+  meets = meets_more w k.name k.anchor k.below (slice_range old.met.items one.from one.to) (slice_range new.met.items one.from one.to) (λ key q. subst (λ (xs : List (List ℕ)). Mem (slice_range xs one.from one.to) key) (sym g.1) (mem_range_on one.from (one.to - one.from) old.met.items g.0 key q)) k.meets;
+  told = λ x p f. h x p (k.told x p f);
+}
+
 pub walked_more : (w : World) (old new : LinesWalk) → new.before.walked.items ≡ old.before.walked.items → Continues old.met.items new.met.items → ((x : Finding) → IsPrinted x → has_lines old.lines x → has_lines new.lines x) → AreWalked w old → AreWalked w new
-walked_more w old new e g h all one m =
-    let k = all one (subst (λ (xs : List Walked). Mem xs one) e m) in record {
-      name = k.name;
-      anchor = k.anchor;
-      below = k.below;
-      accepted = k.accepted;
-      uri_is = k.uri_is;
-      keys_are = k.keys_are;
-      holds = k.holds;
-      meets = meets_more w k.name k.anchor k.below (slice_range old.met.items one.from one.to) (slice_range new.met.items one.from one.to) (λ key q. subst (λ (xs : List (List ℕ)). Mem (slice_range xs one.from one.to) key) (sym g.1) (mem_range_on one.from (one.to - one.from) old.met.items g.0 key q)) k.meets;
-      told = λ x p f. h x p (k.told x p f);
-    }
+walked_more w old new e g h all one m = stays_walked w old new g h one (all one (subst (λ (xs : List Walked). Mem xs one) e m))
 
 pub gained_more : (old new P : Finding → Type 0) → Gains IsPrinted old P new → (x : Finding) → IsPrinted x → old x → new x
 gained_more old new P g x p o = (g x p).1 (inl o)
@@ -130,17 +132,7 @@ gained_more old new P g x p o = (g x p).1 (inl o)
 pub walked_push : (w : World) (old new : LinesWalk) (uri : List ℕ) (ca : Cert) (sets held : Resources) (on : List (List ℕ)) (from to : ℕ) → held ≡ sets → Remembers old.before.walked.items new.before.walked.items uri held on from to → new.met.items ≡ old.met.items → new.lines ≡ old.lines → to ≡ length old.met.items → (name : List ℕ) (a : Link) (cs : List Link) → Stand name a cs (record { locator = name; chain = places a cs }) on uri ca sets → Accepted w name a cs → Meets w name a cs (drop from old.met.items) → ((x : Finding) → IsPrinted x → Found [] w name a cs x → has_lines old.lines x) → AreWalked w old → AreWalked w new
 walked_push w old new uri ca sets held on from to eh r em el et name a cs st acc meets told all one m =
     elim ((mem_push old.before.walked.items r.one one).0 (subst (λ (xs : List Walked). Mem xs one) r.added m)) [
-      | inl q ↦ let k = all one q in record {
-        name = k.name;
-        anchor = k.anchor;
-        below = k.below;
-        accepted = k.accepted;
-        uri_is = k.uri_is;
-        keys_are = k.keys_are;
-        holds = k.holds;
-        meets = subst (λ (xs : List (List ℕ)). Meets w k.name k.anchor k.below (slice_range xs one.from one.to)) (sym em) k.meets;
-        told = λ x p f. here x (k.told x p f);
-      }
+      | inl q ↦ stays_walked w old new (subst (Continues old.met.items) (sym em) (continues_itself old.met.items)) (λ x p h. here x h) one (all one q)
       | inr e ↦ subst (λ (o : Walked). IsWalked w new o) e own
     ]
   where

@@ -18,7 +18,9 @@ use Rattle.rpki_walk.specs.declared.reach.answer.Reach.TheVariants as Is
 -- The lookup keys of a locator's URIs, in its order, or nothing where the text is no locator's (RFC 8630 2.2).
 abbrev pub AreLocatorKeys : Locator → Option (Vec (List ℕ) Global) → Type 0
 AreLocatorKeys l None = (uris : List (List ℕ)) (key : Key) → ¬ (LocatorText l.text uris key)
-AreLocatorKeys l (Some keys) = (uris : List (List ℕ)) × (key : Key) × LocatorText l.text uris key × (keys.items ≡ map lookup_key uris)
+AreLocatorKeys l (Some keys) =
+    (uris : List (List ℕ)) × (key : Key) × LocatorText l.text uris key
+    × (keys.items ≡ map lookup_key uris)
 
 -- Just the lookup keys that the authority names.
 abbrev pub AreNamed : World → Cert → List (List ℕ) → Type 0

@@ -20,7 +20,8 @@ use Rattle.rpki_walk.specs.declared.repository.FileKind.TheVariants as Is
 -- A file that is ignored: of another extension, or a `cer` that reads and isn't an authority's.
 pub record IsIgnored (w : World) (uri : List ℕ) : Type 0 where
   pub no_payload : ¬ (HasExtension roa uri ⊎ HasExtension asa uri)
-  pub no_authority : ¬ (HasExtension cer uri) ⊎ ((c : Cert) × CertAt w uri c × (c.tbs.basic_ca ≢ Some true))
+  pub no_authority : ¬ (HasExtension cer uri)
+      ⊎ ((c : Cert) × CertAt w uri c × (c.tbs.basic_ca ≢ Some true))
 
 -- In each kind the set has the numbers that are held below the certificate.
 abbrev pub HasKept : (Kind → ℕ → Type 0) → Cert → Resources → Type 0
@@ -36,7 +37,8 @@ IsFileKind cert sets payload w held ca p uri (Is.Child a) =
 IsFileKind cert sets payload w held ca p uri (Is.Attests x) = IsGood w held ca p uri (payload x)
 
 -- The authority's publication point where it stands, or nothing where none does.
-abbrev pub IsRead : {P : Type 0} → (P → Point) → World → (Kind → ℕ → Type 0) → Cert → Option P → Type 0
+abbrev pub IsRead : {P : Type 0} → (P → Point) → World → (Kind → ℕ → Type 0) → Cert → Option P
+    → Type 0
 IsRead point w held ca None = (p : Point) → ¬ (StandsIn w held ca p)
 IsRead point w held ca (Some p) = StandsIn w held ca (point p)
 

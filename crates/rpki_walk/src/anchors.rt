@@ -6,7 +6,7 @@ ghost use Rattle.rpki_walk.specs.Facts.{FromLocator, IsFinding, Gains, Walks};
 
 use crate::chains::walk_from;
 use crate::repository::{AnchorLookup, Repository};
-use crate::visitor::Visitor;
+use crate::visitor::{Chain, Visitor};
 use bytes::Bytes;
 use rpki_rules::{Cause, Path};
 use std::alloc::{AllocError, Global};
@@ -32,7 +32,12 @@ fn walk_anchor<S: Repository, V: Visitor<S>>(
 {
     let keys = [repository.key_identifier(alloc, anchor)?];
     let path = Rc::new(alloc, Path::new(alloc, name, uri.clone()?)?)?;
-    walk_from(alloc, repository, visitor, &path, &keys, uri, anchor)
+    let chain = Chain {
+        path: &path,
+        keys: &keys,
+        uri,
+    };
+    walk_from(alloc, repository, visitor, &chain, anchor)
 }
 
 // Tells what the locator at that place tells.

@@ -11,6 +11,17 @@ use rpki_rules::{Cause, Path};
 use std::alloc::{AllocError, Global};
 use std::rc::Rc;
 
+/// An accepted chain at whose end a walk stands.
+#[derive(Drop)]
+pub struct Chain<'a> {
+    /// Its locator's name and the lookup keys of its certificates, the anchor's first.
+    pub path: &'a Rc<Path>,
+    /// The subject key identifiers of its certificates, the last first.
+    pub keys: &'a [Bytes],
+    /// The lookup key of its last certificate.
+    pub uri: &'a Bytes,
+}
+
 /// What is done with what a walk finds: each call tells one thing.
 pub trait Visitor<S: Repository> {
     // What it was told; it keeps no more than what it wants.
@@ -21,19 +32,18 @@ pub trait Visitor<S: Repository> {
     // The URIs that it looks for in what authorities name.
     ghost uris: { Self → List (List ℕ) };
 
-    /// An accepted chain has these keys, the last first, and this last certificate, at this lookup key.
+    /// The chain is accepted, and this is its last certificate.
     fn visit(
         &mut self,
         alloc: Global,
         repository: &mut S,
-        path: &Rc<Path>,
-        keys: &[Bytes],
-        uri: &Bytes,
+        chain: &Chain<'_>,
         ca: &S::Authority,
     ) -> Result<(), AllocError>
         ensures gained { OnOk result (Gains wants (has self.old)
-            (ReachedBy (uris self.old) (S.world repository.old) (InSet (S.sets ca.now)) keys.now
-            (path_of path.now.value) uri.now (S.cert ca.now)) (has self.new)) }
+            (ReachedBy (uris self.old) (S.world repository.old) (InSet (S.sets ca.now))
+            chain.now.keys.now (path_of chain.now.path.now.value) chain.now.uri.now
+            (S.cert ca.now)) (has self.new)) }
         ensures kept { uris self.new ≡ uris self.old }
         ensures same { S.world repository.new ≡ S.world repository.old }
         ensures lender { S.lender repository.new ≡ S.lender repository.old };

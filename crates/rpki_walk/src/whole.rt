@@ -6,7 +6,7 @@ ghost use Rattle.rpki_rules.specs.Report.{IsReport};
 
 use crate::anchors::walk_all;
 use crate::repository::Repository;
-use crate::visitor::Visitor;
+use crate::visitor::{Chain, Visitor};
 use bytes::Bytes;
 use rpki_rules::{Cause, Origin, Path, Provision, Refusal, Report, Witness};
 use std::alloc::{AllocError, Global};
@@ -32,9 +32,7 @@ impl<S: Repository> Visitor<S> for Findings {
         &mut self,
         _alloc: Global,
         _repository: &mut S,
-        _path: &Rc<Path>,
-        _keys: &[Bytes],
-        _uri: &Bytes,
+        _chain: &Chain<'_>,
         _ca: &S::Authority,
     ) -> Result<(), AllocError> {
         Ok(())

@@ -1,7 +1,7 @@
 //! The serial numbers of a list, sorted, so that one is found by halving.
 
 ghost use Rattle.std.specs.Prelude.{◌≡◌, ◌<◌, ◌≤◌, ◌↔◌, ℕ, Contains, IfOk, IsTrue, MatchOption, length, slice_index};
-ghost use Rattle.certs_x509.specs.resources_chain.Rows.{Looks as ProbesAtMost};
+ghost use Rattle.certs_x509.specs.resources_chain.Rows.{ProbesAtMost};
 ghost use Rattle.certs_x509.specs.Listed.{IsListed};
 ghost use Rattle.std.specs.List.Sorted.{IsStrictlyIncreasing};
 ghost use Rattle.std.specs.Ordering.{nat_cmp};

@@ -11,16 +11,16 @@ ghost use Rattle.objects_written.specs.objects_payload.SignedAttributes.{Attribu
 ghost use Rattle.certs_cert.specs.certs_x509.Took.{TookOctets};
 ghost use Rattle.objects_cms.specs.Kept.{AreKept};
 ghost use Rattle.objects_cms.specs.Signer.{AreKeptOctets};
-ghost use Rattle.objects.specs.Again.{DerRefused, SpellsMessage};
-ghost use Rattle.objects.specs.Taking.{in_der as captured_der};
+ghost use Rattle.objects.specs.Again.{SpellsMessage};
+ghost use Rattle.objects_written.specs.Taking.{DerRefused, in_der as captured_der};
 
-use crate::again::der::in_der;
 use bytes::Bytes;
 use certs::written::{Context0, EncodeError};
 use certs_key::decode::{Constructed, DecodeError, Source};
 use certs_key::string::OctetSliceEncoder;
 use certs_key::{Captured, OctetString, Tag};
 use objects_cms::attributes::SignedAttrs;
+use objects_written::der::in_der;
 use objects_written::frame::attributes::SetOf;
 use std::alloc::{AllocError, Global};
 use std::marker::Model;

@@ -5,10 +5,10 @@ ghost use Rattle.objects_written.specs.bcder_tree.declared.mode.Mode.TheVariants
 ghost use Rattle.objects_written.specs.bcder_content.Kept.{SpellsValues};
 ghost use Rattle.objects.specs.Again.{CertRefused, WritesCertAgain, cert_value};
 
-use crate::again::der::in_der;
 use certs::written::{EncodeError, Values};
 use certs_cert::{Cert, SignedData};
 use certs_key::{Captured, Mode, Signature};
+use objects_written::der::in_der;
 use std::alloc::Global;
 
 // The certificate's signed octets as values in DER, with its signature.

@@ -3,7 +3,7 @@
 ghost use Rattle.std.specs.Prelude.{List, ℕ};
 ghost use Rattle.objects_written.specs.bcder_tree.declared.mode.Mode.TheVariants.{Der};
 ghost use Rattle.objects_written.specs.bcder_content.Captures.{rest_of};
-ghost use Rattle.objects_written.specs.bcder_content.Ran.{Decoded, fresh};
+ghost use Rattle.objects_written.specs.bcder_content.ClosureReads.{Decoded, fresh};
 
 use certs_key::decode::{Constructed, Decode, DecodeError};
 use certs_key::string::OctetStringSource;

@@ -11,7 +11,7 @@ ghost use Rattle.objects_written.specs.objects_payload.ObjectText.{IsSignedMessa
 ghost use Rattle.objects_written.specs.objects_payload.Roas.{Roa as RoaValue, RoaText};
 ghost use Rattle.objects_rsc.specs.Checklists.{Checklist as ChecklistValue, ChecklistText};
 ghost use Rattle.objects.specs.Again.{StandsInDer, WritesAgain, with_null};
-ghost use Rattle.objects.specs.Taking.{in_der};
+ghost use Rattle.objects_written.specs.Taking.{in_der};
 
 use certs::again::laws::what_is_built_is_read;
 

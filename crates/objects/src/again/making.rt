@@ -6,17 +6,17 @@ ghost use Rattle.objects_written.specs.bcder_content.Texts.{SpellsOf};
 ghost use Rattle.objects_written.specs.bcder_values.Gathered.{ExtendRefused};
 ghost use Rattle.objects_written.specs.objects_payload.Manifests.{IsFileName, IsManifest, Manifest as ManifestValue};
 ghost use Rattle.objects_written.specs.Manifests.{AreFileNames, IsManifestNumber, file as written_file};
-ghost use Rattle.objects_written.specs.Manifests.{manifest, manifest_parts, moment};
+ghost use Rattle.objects_written.specs.Manifests.{manifest, manifest_parts};
 ghost use Rattle.objects.specs.Making.{IsCause, MakingRefused, file_of, manifest_of};
 ghost use Rattle.objects.specs.declared.again.making.ManifestError.TheVariants.{Memory as NoMemory};
 
 use bytes::Bytes;
-use certs::written::{EncodeError, Identifier, Sequence, SerialValue, Time, Values};
-use certs_key::oid::SHA256;
+use certs::written::{EncodeError, Sequence, Time, Values};
 use certs_key::{Captured, Mode, Serial};
 use objects_cms::manifest::file::is_file_name;
 use objects_cms::manifest::{FileAndHash, ManifestContent};
 use objects_written::EncodeFile;
+use objects_written::manifest::{Parts, parts_of};
 use std::alloc::{AllocError, Global};
 use std::io::Write;
 use std::marker::Model;
@@ -92,41 +92,6 @@ impl Values for GivenFile {
     ghost one_text = { λ f. (written_file f).one_text };
 }
 
-// A moment: a GeneralizedTime, whatever its year (RFC 9286 4.2.1).
-#[derive(Drop)]
-struct Moment(Time);
-
-impl Values for Moment {
-    ghost trees = { λ v. (moment v.0).trees };
-
-    ghost writes = { λ v. (moment v.0).writes };
-
-    fn encoded_len(&self, mode: Mode) -> Result<usize, EncodeError> {
-        let value = self.0.encode_generalized_time();
-        value.encoded_len(mode)
-    }
-
-    fn write_encoded<W: Write>(&self, mode: Mode, target: &mut W) -> Result<(), EncodeError> {
-        let value = self.0.encode_generalized_time();
-        value.write_encoded(mode, target)
-    }
-
-    ghost spelled = { λ v. (moment v.0).spelled };
-
-    ghost one_text = { λ v. (moment v.0).one_text };
-}
-
-// What is written of a manifest: the version, which is the default, is left out (X.690 11.5).
-type Parts<'a> = Sequence<
-    (
-        SerialValue,
-        Moment,
-        Moment,
-        Identifier,
-        Sequence<&'a [GivenFile]>,
-    ),
->;
-
 /// The content of a manifest that is put together: its number, the moments between which it is current, and its files. Contracts
 /// see these four.
 #[derive(Drop)]
@@ -148,14 +113,6 @@ impl Model for ManifestBuilder {
       next_update = m.next_update;
       files = m.files.items;
     } };
-}
-
-// The number, which is below 2^160.
-fn below_bound(number: Serial) -> Serial
-    ensures same { result ≡ number }
-    ensures small { IsManifestNumber number }
-{
-    number
 }
 
 // Whether all files have names of the profile.
@@ -224,7 +181,7 @@ impl ManifestBuilder {
     }
 
     // What is written of the manifest.
-    fn parts(&self) -> Parts<'_>
+    fn parts(&self) -> Sequence<Parts<&[GivenFile]>>
         ensures parts { (
           result.0.0.0,
           (result.0.1.0, (result.0.2.0, (result.0.3.0.0.now, result.0.4.0.now))),
@@ -232,13 +189,12 @@ impl ManifestBuilder {
             ≡ manifest_parts self.now }
         ensures small { IsManifestNumber self.now.number }
     {
-        Sequence((
-            SerialValue(below_bound(self.manifest_number)),
-            Moment(self.this_update),
-            Moment(self.next_update),
-            Identifier(SHA256),
-            Sequence(self.files.as_slice()),
-        ))
+        parts_of(
+            self.manifest_number,
+            self.this_update,
+            self.next_update,
+            self.files.as_slice(),
+        )
     }
 
     // The octets that are written in DER.

@@ -4,14 +4,14 @@ ghost use Rattle.std.specs.Prelude.{◌≡◌, IfErr, IfOk};
 ghost use Rattle.objects_written.specs.bcder_tree.declared.mode.Mode.TheVariants.{Der};
 ghost use Rattle.objects_written.specs.objects_payload.ObjectText.{Object};
 ghost use Rattle.objects_written.specs.Frames.{object as written_object};
-ghost use Rattle.objects.specs.Again.{AgainRefused, ArePartsOf, DerRefused, PartsRefused, StandsInDer, WritesAgain, parts_with};
-ghost use Rattle.objects.specs.Taking.{IsInDer};
+ghost use Rattle.objects.specs.Again.{AgainRefused, ArePartsOf, PartsRefused, StandsInDer, WritesAgain, parts_with};
+ghost use Rattle.objects_written.specs.Taking.{DerRefused, IsInDer};
 
 use crate::again::cert::cert_text;
-use crate::again::der::in_der;
 use certs::written::{EncodeError, Values};
 use certs_key::{Captured, KeyIdentifier, Mode, OctetString};
 use objects_valid::kinds::SignedObject;
+use objects_written::der::in_der;
 use objects_written::frame::{ObjectValue, SignerValue};
 use std::alloc::Global;
 use std::io::Write;

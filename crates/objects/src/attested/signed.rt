@@ -13,11 +13,11 @@ ghost use Rattle.objects.specs.Attested.{AttestsCustomer, IsAspaFor};
 ghost use Rattle.objects.specs.Written.{aspa};
 
 use crate::attested::builder::AspaBuilder;
-use crate::issued::refusing::unwritten;
 use certs_extension::{AsResources, IpResources};
 use certs_key::oid::CT_ASPA;
 use certs_key::{Captured, Digester, Signer, SigningError};
 use objects_written::SignedObjectBuilder;
+use objects_written::causes::unwritten;
 use std::alloc::{AllocError, Global};
 
 // The content of an attestation, in DER.

@@ -6,12 +6,13 @@ ghost use Rattle.objects.specs.bcder_content.Texts.{SpellsOf};
 ghost use Rattle.objects.specs.bcder_primitive.declared.written.error.EncodeError.TheVariants.{Memory as memory_lacks};
 ghost use Rattle.objects.specs.bcder_values.Gathered.{ExtendRefused};
 ghost use Rattle.objects.specs.objects_payload.Aspas.{IsAspa, IsLawful};
-ghost use Rattle.objects.specs.Written.{as_id, aspa, aspa_parts};
+ghost use Rattle.objects.specs.Written.{aspa, aspa_parts};
 
 use crate::attested::builder::AspaBuilder;
 use certs::written::{Context0, Sequence, Version};
-use certs_key::encode::{EncodeError, Iter, Primitive, Values, Walk};
-use certs_key::{Captured, Mode, Tag};
+use certs_key::encode::{EncodeError, Iter, Values, Walk};
+use certs_key::{Captured, Mode};
+use objects_written::roa::AsIdValue;
 use resources_asn::Asn;
 use std::alloc::Global;
 use std::io::Write;
@@ -19,44 +20,6 @@ use std::marker::Model;
 
 // The version that is written.
 const VERSION: u8 = 1;
-
-/// An AS number: an INTEGER (draft-ietf-sidrops-aspa-profile 3). Contracts see the number.
-#[derive(Drop)]
-pub struct AsIdValue(Asn);
-
-impl Model for AsIdValue {
-    ghost use Rattle.std.specs.Prelude.{ℕ};
-
-    ghost Value = { ℕ };
-
-    ghost view = { λ v. v.0.value };
-}
-
-impl Values for AsIdValue {
-    ghost trees = { λ v. (as_id v).trees };
-
-    ghost writes = { λ v. (as_id v).writes };
-
-    fn encoded_len(&self, mode: Mode) -> Result<usize, EncodeError> {
-        let value = Primitive {
-            tag: Tag::INTEGER,
-            content: self.0,
-        };
-        value.encoded_len(mode)
-    }
-
-    fn write_encoded<W: Write>(&self, mode: Mode, target: &mut W) -> Result<(), EncodeError> {
-        let value = Primitive {
-            tag: Tag::INTEGER,
-            content: self.0,
-        };
-        value.write_encoded(mode, target)
-    }
-
-    ghost spelled = { λ v. (as_id v).spelled };
-
-    ghost one_text = { λ v. (as_id v).one_text };
-}
 
 /// Providers that are still to come, in their order. Contracts see their list.
 #[derive(Debug, Drop)]

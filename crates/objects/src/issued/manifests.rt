@@ -12,11 +12,11 @@ ghost use Rattle.objects.specs.Issued.{IsManifestFor, inheriting};
 ghost use Rattle.objects.specs.objects_payload.Identifiers as id;
 ghost use Rattle.objects.specs.objects_written.Manifests.{IsManifestNumber, manifest};
 
-use crate::issued::refusing::unwritten;
 use certs_key::laws::serials_are_small;
 use certs_key::oid::CT_RPKI_MANIFEST;
 use certs_key::{Captured, Digester, Signer, SigningError};
 use objects_cms::manifest::ManifestContent;
+use objects_written::causes::unwritten;
 use objects_written::{EncodeManifest, SignedObjectBuilder};
 use std::alloc::Global;
 

@@ -16,11 +16,11 @@ ghost use Rattle.objects.specs.objects_payload.Identifiers as id;
 ghost use Rattle.objects.specs.Issued.{AttestsPrefixes, IsRoaFor};
 
 use crate::issued::addresses::resources_of;
-use crate::issued::refusing::unwritten;
 use certs_extension::{AsResources, IpResources};
 use certs_key::oid::CT_ROUTE_ORIGIN_AUTHZ;
 use certs_key::{Captured, Digester, Signer, SigningError};
 use objects_payload::roa::{RoaBuilder, RouteOriginAttestation};
+use objects_written::causes::unwritten;
 use objects_written::{EncodeRoa, SignedObjectBuilder};
 use std::alloc::{AllocError, Global};
 

@@ -1,6 +1,6 @@
 //! A signer whose signatures are digests of its key's bits and of the message.
 
-ghost use Rattle.std.specs.Prelude.{◌≡◌, ◌≢◌, ◌∷◌, ◌++◌, IfErr, IfOk};
+ghost use Rattle.std.specs.Prelude.{◌≡◌, ◌≢◌, ◌∷◌, IfErr, IfOk};
 ghost use Rattle.objects_written.specs.bcder_tree.declared.mode.Mode.TheVariants.{Der};
 ghost use Rattle.objects_written.specs.bcder_octets.BitContents.{IsPadded};
 ghost use Rattle.objects_written.specs.certs_key.declared.signer.SigningError.TheVariants.{TooLong};
@@ -8,9 +8,9 @@ ghost use Rattle.sha2.specs.Sha256.{sha256 as sha256_of};
 
 use bcder::decode::DecodeError;
 use bytes::Bytes;
+use certs_roles::stand_in::digest_of;
 use certs_x509::{PublicKey, Signature, SignatureAlgorithm, Signer, SigningError};
-use sha2::{Digest, Sha256};
-use std::alloc::{AllocError, Global};
+use std::alloc::Global;
 use std::convert::Infallible;
 
 // The issuer's key: RSA, its bits hold 1.
@@ -27,16 +27,6 @@ const MADE: &[u8] = &[
 #[derive(Drop)]
 pub struct Stub {
     is_willing: bool,
-}
-
-// The digest of both, one after the other.
-fn digest_of(alloc: Global, bits: &[u8], message: &[u8]) -> Result<Bytes, AllocError>
-    ensures { IfOk result (λ digest. digest ≡ sha256_of (bits.now ++ message.now)) }
-{
-    let mut octets = Vec::from_slice(alloc, bits)?;
-    octets.extend_from_slice(message)?;
-    let digest = Sha256::digest(octets.as_slice());
-    Bytes::copy_from_slice(alloc, digest.as_slice())
 }
 
 // A key of its encoded octets.
@@ -93,7 +83,7 @@ impl Signer for Stub {
         algorithm: A,
         message: &[u8],
     ) -> Result<Signature<A>, SigningError<Infallible>> {
-        match digest_of(alloc, &[0, 1], message) {
+        match Bytes::copy_from_slice(alloc, &digest_of(&[0, 1], message)) {
             Ok(octets) => Ok(Signature::new(algorithm, octets)),
             Err(_) => Err(SigningError::Memory),
         }
@@ -109,7 +99,7 @@ impl Signer for Stub {
             return Err(SigningError::IncompatibleKey);
         }
         let key = key_of(alloc, MADE)?;
-        match digest_of(alloc, &[0, 2], message) {
+        match Bytes::copy_from_slice(alloc, &digest_of(&[0, 2], message)) {
             Ok(octets) => Ok((Signature::new(algorithm, octets), key)),
             Err(_) => {
                 drop(key);

@@ -1,11 +1,13 @@
 //! Whether checklists are sound, and accepted below a trust anchor.
 
-use crate::rsc::stub::{Standing, Stub};
 use crate::rsc::told::shown;
+use crate::values::moment;
 use answers::{Answer, octets_of, unknown};
 use anyhow::{Result, anyhow};
 use bcder::decode::DecodeError;
-use certs_verify::{Cert, ResourceCert, TalInfo, Validate, ValidationError, VerificationError};
+use certs_roles::stand_in::StandIn;
+use certs_roles::terms::{Standing, locator};
+use certs_verify::{Cert, ResourceCert, Validate, ValidationError, VerificationError};
 use certs_x509::errors::Time;
 use objects::rsc::{ResourceSignedChecklist, Rsc};
 use resources::IpBlocksForFamily;
@@ -13,7 +15,7 @@ use rpki_digests::Fips;
 use std::alloc::Global;
 
 // When the trust anchors are valid.
-const AT: &[u8] = b"20250101000000Z";
+const AT: &str = "20250101000000Z";
 
 // What the caller's test of a certificate says, by its word.
 fn verdict(word: &str) -> Result<(), ValidationError> {
@@ -25,25 +27,17 @@ fn verdict(word: &str) -> Result<(), ValidationError> {
     Err(ValidationError::Verification(cause))
 }
 
-// The moment of a text.
-fn moment_of(text: &[u8]) -> Result<Time> {
-    match Time::from_generalized(text) {
-        Some(moment) => Ok(moment),
-        None => Err(anyhow!("no moment")),
-    }
-}
-
 // The trust anchor of octets, with what it holds.
 fn anchor_of(alloc: Global, digits: &str) -> Result<ResourceCert> {
-    let tal = TalInfo::from_name(String::from_str(alloc, "t")?).into_rc(alloc)?;
+    let tal = locator(alloc)?;
     let octets = octets_of(alloc, digits);
     let cert = match Cert::decode(alloc, octets.as_slice()) {
         Ok(cert) => cert,
         Err(DecodeError::Memory) => return Err(anyhow!("memory")),
         Err(_) => return Err(anyhow!("no certificate")),
     };
-    let mut stub = Stub { asked: 0 };
-    match cert.validate_ta_at(tal, true, moment_of(AT)?, &Fips, &mut stub) {
+    let mut verifier = StandIn { asked: 0 };
+    match cert.validate_ta_at(tal, true, moment(AT)?, &Fips, &mut verifier) {
         Ok(anchor) => Ok(anchor),
         Err(refused) => {
             let error = anyhow!("{}", refused.error);
@@ -77,7 +71,7 @@ fn process(
     alloc: Global,
     asked: &Asked<'_>,
     rsc: Rsc,
-    stub: &mut Stub,
+    verifier: &mut StandIn,
 ) -> Result<(ResourceCert, ResourceSignedChecklist), ValidationError> {
     let (issuer, strict, now, test) = (asked.issuer, asked.strict, asked.now, asked.test);
     let check_crl = move |_: &Cert| verdict(test);
@@ -88,17 +82,23 @@ fn process(
             strict,
             &Standing(now),
             &Fips,
-            stub,
+            verifier,
             check_crl,
         )
     } else {
-        rsc.process_at(alloc, issuer, strict, now, &Fips, stub, check_crl)
+        rsc.process_at(alloc, issuer, strict, now, &Fips, verifier, check_crl)
     }
 }
 
 // What is answered of a checklist that is processed.
-fn accepted(alloc: Global, answer: &mut Answer, asked: &Asked<'_>, rsc: Rsc, stub: &mut Stub) {
-    match process(alloc, asked, rsc, stub) {
+fn accepted(
+    alloc: Global,
+    answer: &mut Answer,
+    asked: &Asked<'_>,
+    rsc: Rsc,
+    verifier: &mut StandIn,
+) {
+    match process(alloc, asked, rsc, verifier) {
         Ok((holder, checklist)) => {
             held(answer, &holder, &checklist);
             drop(holder);
@@ -114,25 +114,25 @@ fn accepted(alloc: Global, answer: &mut Answer, asked: &Asked<'_>, rsc: Rsc, stu
 // What is answered of octets.
 fn answered(alloc: Global, answer: &mut Answer, asked: &Asked<'_>, digits: &str) {
     let octets = octets_of(alloc, digits);
-    let mut stub = Stub { asked: 0 };
+    let mut verifier = StandIn { asked: 0 };
     match Rsc::decode(alloc, octets.as_slice(), asked.strict) {
-        Ok(rsc) => accepted(alloc, answer, asked, rsc, &mut stub),
+        Ok(rsc) => accepted(alloc, answer, asked, rsc, &mut verifier),
         Err(DecodeError::Memory) => answer.word("memory"),
         Err(error) => {
             drop(error);
             answer.word("unreadable");
         }
     }
-    answer.say(&format_args!("asked {}", stub.asked));
+    answer.say(&format_args!("asked {}", verifier.asked));
 }
 
 /// Whether a checklist is accepted: strict or not, at a moment, with a caller's test, below a trust anchor; and how often
 /// the verifier was asked.
 pub fn processed(alloc: Global, answer: &mut Answer, by_clock: bool, words: &[&str]) -> Result<()> {
-    let [how, moment, test, anchor, digits] = words else {
+    let [how, at, test, anchor, digits] = words else {
         return unknown();
     };
-    let now = moment_of((*moment).as_bytes())?;
+    let now = moment(*at)?;
     let issuer = anchor_of(alloc, *anchor)?;
     let asked = Asked {
         issuer: &issuer,
@@ -149,18 +149,18 @@ pub fn processed(alloc: Global, answer: &mut Answer, by_clock: bool, words: &[&s
 /// Whether a checklist is sound, whatever its certificate is, and how often the verifier was asked.
 pub fn sound(alloc: Global, answer: &mut Answer, strict: bool, digits: &str) -> Result<()> {
     let octets = octets_of(alloc, digits);
-    let mut stub = Stub { asked: 0 };
+    let mut verifier = StandIn { asked: 0 };
     let rsc = match Rsc::decode(alloc, octets.as_slice(), strict) {
         Ok(rsc) => rsc,
         Err(DecodeError::Memory) => return Err(anyhow!("memory")),
         Err(_) => return Err(anyhow!("unreadable")),
     };
-    let tested = rsc.verify_content(alloc, &Fips, &mut stub);
+    let tested = rsc.verify_content(alloc, &Fips, &mut verifier);
     drop(rsc);
     match tested {
         Ok(()) => answer.word("sound"),
         Err(error) => answer.say(&format_args!("unsound: {error}")),
     }
-    answer.say(&format_args!("asked {}", stub.asked));
+    answer.say(&format_args!("asked {}", verifier.asked));
     Ok(())
 }

@@ -2,53 +2,10 @@
 
 use answers::{Answer, octets_of};
 use anyhow::Result;
+use certs_roles::told::{addresses, numbers};
 use objects::rsc::{FileNameAndHash, ResourceSignedChecklist, Rsc};
-use resources::{AddressFamily, AsResources, IpBlocks, IpBlocksForFamily, IpResources};
+use resources::AddressFamily;
 use std::alloc::Global;
-
-// What is stated of AS numbers: a set in brackets, or `-`.
-fn numbers(answer: &mut Answer, resources: &AsResources) {
-    if resources.is_missing() {
-        answer.word("-");
-        return;
-    }
-    match resources.to_blocks() {
-        Ok(set) => {
-            answer.say(&format_args!("[{set}]"));
-            drop(set);
-        }
-        Err(_) => answer.word("inherit"),
-    }
-}
-
-// A set of one family, in brackets.
-fn set_of(answer: &mut Answer, family: AddressFamily, set: &IpBlocks) {
-    match family {
-        AddressFamily::Ipv4 => {
-            let shown = IpBlocksForFamily::v4(set);
-            answer.say(&format_args!("[{shown}]"));
-        }
-        AddressFamily::Ipv6 => {
-            let shown = IpBlocksForFamily::v6(set);
-            answer.say(&format_args!("[{shown}]"));
-        }
-    }
-}
-
-// What is stated of the addresses of a family: a set in brackets, or `-`.
-fn addresses(answer: &mut Answer, family: AddressFamily, resources: &IpResources) {
-    if resources.is_missing() {
-        answer.word("-");
-        return;
-    }
-    match resources.to_blocks() {
-        Ok(set) => {
-            set_of(answer, family, &set);
-            drop(set);
-        }
-        Err(_) => answer.word("inherit"),
-    }
-}
 
 // A name, or `-`, and a digest, by their octets.
 fn pair(answer: &mut Answer, name: Option<&[u8]>, digest: &[u8]) {

@@ -2,19 +2,17 @@
 
 ghost use Rattle.std.specs.Prelude.{◌≡◌, ◌<◌, ◌↔◌, [], true, length, IsTrue, OnErr};
 ghost use Rattle.objects_cms.specs.bcder_tree.declared.mode.Mode.TheVariants.{Der};
-ghost use Rattle.objects_cms.specs.bcder_tree.Tags.{context};
-ghost use Rattle.objects_cms.specs.bcder_content.Exact.{DecodesAs, ReadsAs, ReadsOptAs};
+ghost use Rattle.objects_cms.specs.bcder_content.Exact.{DecodesAs, ReadsAs};
 ghost use Rattle.objects_cms.specs.bcder_content.Here.{here};
 ghost use Rattle.objects_cms.specs.bcder_content.InMode.{ReadsFields};
-ghost use Rattle.objects_payload.specs.Contents.{IsVersion};
 ghost use Rattle.objects_payload.specs.Manifests.{IsManifest, manifest_of};
-ghost use Rattle.objects_cms.specs.ManifestFields.{AreManifestFields, IsNumber, fields_of};
-ghost use Rattle.objects_cms.specs.Said.{alone};
+ghost use Rattle.objects_cms.specs.ManifestFields.{AreManifestFields, fields_of};
 
 use crate::manifest::list::{FileList, FileListIter};
+use crate::version::take_opt_version;
 use certs_key::decode::{Constructed, Decode, DecodeError, IntoSource, Source};
 use certs_key::oid::SHA256;
-use certs_key::{Mode, Serial, Tag};
+use certs_key::{Mode, Serial};
 use objects_payload::forms::Time;
 use std::alloc::Global;
 use std::marker::Model;
@@ -49,30 +47,6 @@ impl Model for ManifestContent {
 // Whether the version is written out, and what else is read.
 type Fields = (Option<()>, Serial, Time, Time, FileList);
 
-// The number of the version.
-fn take_number<S: Source>(cons: &mut Constructed<S>) -> Result<(), DecodeError<S::Error>>
-    ensures { ReadsFields alone IsNumber (here S.rest cons.old) result (here S.rest cons.new) }
-{
-    let number = cons.skip_u8_if(VERSION)?;
-    Ok(number)
-}
-
-// The version, if it is written out: `[0] EXPLICIT INTEGER (0)`.
-fn take_opt_version<S: Source>(
-    cons: &mut Constructed<S>,
-) -> Result<Option<()>, DecodeError<S::Error>>
-    ensures { ReadsOptAs alone (context 0) (IsVersion 0)
-        (here S.rest cons.old) result (here S.rest cons.new) }
-{
-    cons.take_opt_constructed_if(
-        Tag::CTX_0,
-        |cons|
-            ensures { ReadsFields alone IsNumber
-                (here S.rest cons.old) result (here S.rest cons.new) }
-        { take_number(cons) },
-    )
-}
-
 // All fields, up to the end of their content.
 fn take_fields<S: Source>(
     alloc: Global,
@@ -81,7 +55,7 @@ fn take_fields<S: Source>(
     ensures { ReadsFields fields_of AreManifestFields
         (here S.rest cons.old) result (here S.rest cons.new) }
 {
-    let version = take_opt_version(cons)?;
+    let version = take_opt_version(cons, VERSION)?;
     let manifest_number = Serial::take_from(cons)?;
     let this_update = Time::take_generalized_from(cons)?;
     let next_update = Time::take_generalized_from(cons)?;

@@ -15,7 +15,7 @@ ghost use Rattle.objects_cms.specs.Held.{Left, one_left};
 ghost use Rattle.objects_cms.specs.Listing.{Listing, one_listing};
 
 use crate::manifest::file::{FileAndHash, skip_opt_file};
-use crate::manifest::pieces::next_piece;
+use bcder_octets::next_piece;
 use certs_key::Captured;
 use certs_key::decode::{Constructed, DecodeError, Source};
 use std::alloc::Global;

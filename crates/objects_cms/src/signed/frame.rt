@@ -17,7 +17,7 @@ use crate::signed::content::{Typed, take_content_info};
 use crate::signed::kept::KeptCert;
 use crate::signed::signer::SignerInfo;
 use certs_cert::decode::{Constructed, DecodeError, Source};
-use certs_cert::{DigestAlgorithm, Tag, beside};
+use certs_cert::{DigestAlgorithm, Tag, with_value};
 use certs_key::oid::SIGNED_DATA;
 use std::alloc::Global;
 
@@ -41,8 +41,8 @@ fn take_fields<S: Source>(
     let version = cons.skip_u8_if(VERSION)?;
     let digest = DigestAlgorithm::take_set_from(cons)?;
     let typed = take_content_info(alloc, cons)?;
-    let (typed, cert) = beside(typed, take_certificates(alloc, cons))?;
-    let (both, signer) = beside((typed, cert), take_signers(alloc, cons))?;
+    let (typed, cert) = with_value(typed, take_certificates(alloc, cons))?;
+    let (both, signer) = with_value((typed, cert), take_signers(alloc, cons))?;
     Ok((both.0, both.1, signer))
 }
 

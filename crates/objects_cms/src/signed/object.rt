@@ -4,7 +4,7 @@ ghost use Rattle.std.specs.Prelude.{◌≡◌, ◌≢◌, ◌↔◌, IfErr, IfOk
 ghost use Rattle.objects_cms.specs.bcder_source.declared.error.DecodeError.TheVariants.{Memory};
 ghost use Rattle.objects_cms.specs.bcder_content.Here.{here};
 ghost use Rattle.objects_cms.specs.bcder_content.Memory.{OnMemory};
-ghost use Rattle.objects_cms.specs.bcder_content.Ran.{fresh};
+ghost use Rattle.objects_cms.specs.bcder_content.ClosureReads.{fresh};
 ghost use Rattle.objects_cms.specs.objects_payload.ObjectText.{SpellsObject, mode, object_of, signer_of};
 ghost use Rattle.objects_cms.specs.Signer.{signer_fields};
 ghost use Rattle.objects_cms.specs.Begun.{BeginsObject};
@@ -47,8 +47,8 @@ impl Model for SignedObject {
     } };
 }
 
-// Strict is DER, else BER.
-fn mode_of(strict: bool) -> Mode
+/// The mode of what is read: strict is DER, else BER.
+pub fn mode_of(strict: bool) -> Mode
     ensures { result ≡ mode strict }
 {
     if strict { Mode::Der } else { Mode::Ber }

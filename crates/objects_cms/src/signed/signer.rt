@@ -16,7 +16,7 @@ ghost use Rattle.objects_cms.specs.Signer.{AreKeptOctets, AreSigner, AreSignerOc
 use crate::attributes::SignedAttrs;
 use certs_cert::decode::{Constructed, DecodeError, Source};
 use certs_cert::{
-    DigestAlgorithm, KeyIdentifier, OctetString, RpkiSignatureAlgorithm, Tag, beside,
+    DigestAlgorithm, KeyIdentifier, OctetString, RpkiSignatureAlgorithm, Tag, with_value,
 };
 use std::alloc::Global;
 use std::marker::Model;
@@ -103,11 +103,11 @@ impl SignerInfo {
         let sid = take_sid(alloc, cons)?;
         let digest = DigestAlgorithm::take_from(cons)?;
         let attributes = take_attributes(alloc, cons)?;
-        let (attributes, algorithm) = beside(
+        let (attributes, algorithm) = with_value(
             attributes,
             RpkiSignatureAlgorithm::cms_take_from(cons),
         )?;
-        let (attributes, signature) = beside(attributes, OctetString::take_from(alloc, cons))?;
+        let (attributes, signature) = with_value(attributes, OctetString::take_from(alloc, cons))?;
         Ok(SignerInfo {
             sid,
             attributes,

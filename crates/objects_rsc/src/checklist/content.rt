@@ -1,22 +1,19 @@
 //! The content of a checklist (RFC 9323 4).
 
 ghost use Rattle.std.specs.Prelude.{◌≡◌, ◌↔◌, [], true, length, map, IsTrue, OnErr};
-ghost use Rattle.objects_payload.specs.bcder_content.Exact.{DecodesAs, ReadsAs, ReadsOptAs};
+ghost use Rattle.objects_payload.specs.bcder_content.Exact.{DecodesAs, ReadsAs};
 ghost use Rattle.objects_payload.specs.bcder_content.Here.{here};
 ghost use Rattle.objects_payload.specs.bcder_content.InMode.{ReadsFields};
 ghost use Rattle.objects_payload.specs.bcder_tree.declared.mode.Mode.TheVariants.{Der};
-ghost use Rattle.objects_payload.specs.bcder_tree.Tags.{context};
-ghost use Rattle.objects_payload.specs.Contents.{IsVersion};
-ghost use Rattle.objects_payload.specs.Fields.{alone};
-ghost use Rattle.objects_payload.specs.RoaContents.{AreNumber};
 ghost use Rattle.objects_rsc.specs.Checklists.{AreFields, AreSome, IsChecklist, checklist_of};
 ghost use Rattle.objects_rsc.specs.Entries.{AreBehind, behind_fields, checked, parts_fields};
 
 use crate::checklist::entry::{Entry, take_list};
 use crate::checklist::file::CheckListIter;
+use bcder::Mode;
 use bcder::decode::{Constructed, ContentError, Decode, DecodeError, IntoSource, Source};
-use bcder::{Mode, Tag};
 use certs_x509::DigestAlgorithm;
+use objects_cms::version::take_opt_version;
 use objects_valid::{AsForm, AsResources, IpResources, StatedResources};
 use std::alloc::Global;
 use std::marker::Model;
@@ -53,30 +50,6 @@ struct Parts {
     files: Vec<Entry>,
 }
 
-// The number of the version.
-fn take_number<S: Source>(cons: &mut Constructed<S>) -> Result<(), DecodeError<S::Error>>
-    ensures { ReadsFields alone AreNumber (here S.rest cons.old) result (here S.rest cons.new) }
-{
-    let number = cons.skip_u8_if(VERSION)?;
-    Ok(number)
-}
-
-// The version, if it is written out: `[0] EXPLICIT INTEGER (0)`.
-fn take_opt_version<S: Source>(
-    cons: &mut Constructed<S>,
-) -> Result<Option<()>, DecodeError<S::Error>>
-    ensures { ReadsOptAs alone (context 0) (IsVersion 0)
-        (here S.rest cons.old) result (here S.rest cons.new) }
-{
-    cons.take_opt_constructed_if(
-        Tag::CTX_0,
-        |cons|
-            ensures { ReadsFields alone AreNumber
-                (here S.rest cons.old) result (here S.rest cons.new) }
-        { take_number(cons) },
-    )
-}
-
 // Whether there is an entry.
 fn has_some(files: &Vec<Entry>) -> bool
     ensures { IsTrue result ↔ AreSome (map checked files.now.items) }
@@ -109,7 +82,7 @@ fn take_parts<S: Source>(
     ensures { ReadsFields parts_fields AreFields
         (here S.rest cons.old) result (here S.rest cons.new) }
 {
-    let version = take_opt_version(cons)?;
+    let version = take_opt_version(cons, VERSION)?;
     let resources = StatedResources::take_from(alloc, cons, AsForm::Identifiers)?;
     match take_behind(alloc, cons) {
         Ok(files) => Ok(Parts {

@@ -2,19 +2,16 @@
 
 ghost use Rattle.std.specs.Prelude.{◌≡◌, OnErr, true};
 ghost use Rattle.objects_cms.specs.bcder_tree.declared.mode.Mode.TheVariants.{Der};
-ghost use Rattle.objects_cms.specs.bcder_tree.Tags.{context};
-ghost use Rattle.objects_cms.specs.bcder_content.Exact.{DecodesAs, ReadsAs, ReadsOptAs};
+ghost use Rattle.objects_cms.specs.bcder_content.Exact.{DecodesAs, ReadsAs};
 ghost use Rattle.objects_cms.specs.bcder_content.Here.{here};
 ghost use Rattle.objects_cms.specs.bcder_content.InMode.{ReadsFields};
-ghost use Rattle.objects_cms.specs.objects_payload.Contents.{IsVersion};
-ghost use Rattle.objects_cms.specs.objects_payload.Fields.{alone};
-ghost use Rattle.objects_cms.specs.objects_payload.RoaContents.{AreNumber};
 ghost use Rattle.objects_rta.specs.Attestations.{AreFields, IsAttestation, attestation_of};
 ghost use Rattle.objects_rta.specs.AttestationParts.{AreBehind, AreDigest, behind_fields, digest_fields, parts_fields};
 
 use crate::attestation::keys::take_key_set;
 use certs_cert::decode::{Constructed, Decode, DecodeError, IntoSource, Source};
-use certs_cert::{DigestAlgorithm, KeyIdentifier, Mode, OctetString, Tag};
+use certs_cert::{DigestAlgorithm, KeyIdentifier, Mode, OctetString};
+use objects_cms::version::take_opt_version;
 use objects_valid::{AsForm, AsResources, IpResources, StatedResources};
 use std::alloc::Global;
 use std::marker::Model;
@@ -61,30 +58,6 @@ pub(crate) struct Parts {
     behind: Behind,
 }
 
-// The number of the version.
-fn take_number<S: Source>(cons: &mut Constructed<S>) -> Result<(), DecodeError<S::Error>>
-    ensures { ReadsFields alone AreNumber (here S.rest cons.old) result (here S.rest cons.new) }
-{
-    let number = cons.skip_u8_if(VERSION)?;
-    Ok(number)
-}
-
-// The version, if it is written out: `[0] EXPLICIT INTEGER (0)`.
-fn take_opt_version<S: Source>(
-    cons: &mut Constructed<S>,
-) -> Result<Option<()>, DecodeError<S::Error>>
-    ensures { ReadsOptAs alone (context 0) (IsVersion 0)
-        (here S.rest cons.old) result (here S.rest cons.new) }
-{
-    cons.take_opt_constructed_if(
-        Tag::CTX_0,
-        |cons|
-            ensures { ReadsFields alone AreNumber
-                (here S.rest cons.old) result (here S.rest cons.new) }
-        { take_number(cons) },
-    )
-}
-
 // The digest's algorithm and the digest, which are last.
 fn take_digest<S: Source>(
     alloc: Global,
@@ -124,7 +97,7 @@ fn take_parts<S: Source>(
     ensures { ReadsFields parts_fields AreFields
         (here S.rest cons.old) result (here S.rest cons.new) }
 {
-    let version = take_opt_version(cons)?;
+    let version = take_opt_version(cons, VERSION)?;
     let keys = take_key_set(alloc, cons)?;
     match take_behind(alloc, cons) {
         Ok(behind) => Ok(Parts {

@@ -13,9 +13,9 @@ ghost use Rattle.objects_written.specs.certs_key.Digesting.{digests_of};
 ghost use Rattle.objects_written.specs.objects_payload.ObjectText.{SpellsSigner, signer_of};
 ghost use Rattle.objects_rta.specs.certs_x509.Took.{TookOctets};
 ghost use Rattle.objects_rta.specs.objects_cms.Signer.{IsSigner as IsSignerValue, signer_fields};
-ghost use Rattle.objects_written.specs.Attributes.{IsMessage, IsRefused, ToSign, WritesAttributes, to_sign};
+ghost use Rattle.objects_written.specs.Attributes.{IsMessage, IsRefused, ToSign, to_sign};
 ghost use Rattle.objects_written.specs.Frames.{signer as written_signer};
-ghost use Rattle.objects_written.specs.Refusing.{BuildRefused, CanTell, CannotSign, told_as};
+ghost use Rattle.objects_written.specs.Refusing.{BuildRefused, CanTell};
 ghost use Rattle.objects_rta.specs.Attestations.{tagged_attestation};
 ghost use Rattle.objects_rta_written.specs.Builders.{CannotAdd, CannotMake, IsSigner};
 ghost use Rattle.objects_rta_written.specs.Signing.{AreAttributesOf, SignsThem, fields_of};
@@ -27,18 +27,16 @@ use certs_key::{
     Digester, KeyIdentifier, RpkiSignature, RpkiSignatureAlgorithm, Signer, SigningError,
 };
 use objects_rta::SignerInfo;
+use objects_written::causes::unwritten;
 use objects_written::frame::{SignerValue, signed_attributes, signed_message};
 use std::alloc::Global;
 use std::convert::Infallible;
 
-// Why nothing was signed, where something can't be written.
-fn refused<E>(error: EncodeError) -> SigningError<E>
-    ensures { result ≡ told_as error }
-{
-    match error {
-        EncodeError::Memory => SigningError::Memory,
-        _ => SigningError::TooLong,
-    }
+// Who signs: a signer, by its key of that name.
+#[derive(Drop)]
+struct Holder<'a, S: Signer> {
+    signer: &'a S,
+    key: &'a S::KeyId,
 }
 
 // The attributes of an attestation that is signed then.
@@ -63,21 +61,23 @@ fn attributes_of<D: Digester>(
 fn sign<S: Signer>(
     alloc: Global,
     attributes: &Captured,
-    signer: &S,
-    key: &S::KeyId,
+    holder: &Holder<'_, S>,
 ) -> Result<RpkiSignature, SigningError<S::Error>>
     requires { attributes.now.mode ≡ Der }
-    ensures signed { IfOk result (λ made. SignsThem (S.signs signer.now key.now)
+    ensures signed { IfOk result (λ made. SignsThem
+        (S.signs holder.now.signer.now holder.now.key.now)
         attributes.now.octets made.bits.octets) }
-    ensures refused { IfErr result (BuildRefused (S.refuses signer.now) (Unit {0})
+    ensures refused { IfErr result (BuildRefused (S.refuses holder.now.signer.now) (Unit {0})
         (Writable (IsMessage attributes.now.octets) → ⊥)) }
 {
     match signed_message(alloc, attributes) {
         Ok(message) => {
             let algorithm = RpkiSignatureAlgorithm::default();
-            signer.sign(alloc, key, algorithm, message.as_slice())
+            holder
+                .signer
+                .sign(alloc, holder.key, algorithm, message.as_slice())
         }
-        Err(error) => Err(refused(error)),
+        Err(error) => Err(unwritten(error)),
     }
 }
 
@@ -146,7 +146,7 @@ fn with_signature<E>(
 {
     match put_together(alloc, sid, attributes, signature) {
         Ok(made) => Ok(made),
-        Err(error) => Err(refused(error)),
+        Err(error) => Err(unwritten(error)),
     }
 }
 
@@ -156,26 +156,27 @@ fn signed_for<S: Signer, D: Digester>(
     sid: KeyIdentifier,
     content: &[u8],
     time: Time,
-    signer: &S,
-    key: &S::KeyId,
+    holder: &Holder<'_, S>,
     digester: &D,
 ) -> Result<SignerInfo, SigningError<S::Error>>
-    ensures made { IfOk result (λ x. IsSigner (S.signs signer.now key.now)
+    ensures made { IfOk result (λ x. IsSigner
+        (S.signs holder.now.signer.now holder.now.key.now)
         (to_sign tagged_attestation (D.sha256_digest digester.now content.now) time)
         sid (signer_of (signer_fields x))) }
-    ensures refused { IfErr result (BuildRefused (S.refuses signer.now)
-        (CanTell tagged_attestation) (CannotMake (S.signs signer.now key.now)
+    ensures refused { IfErr result (BuildRefused (S.refuses holder.now.signer.now)
+        (CanTell tagged_attestation) (CannotMake
+        (S.signs holder.now.signer.now holder.now.key.now)
         (to_sign tagged_attestation (D.sha256_digest digester.now content.now) time) sid)) }
 {
     match attributes_of(alloc, content, time, digester) {
-        Ok(attributes) => match sign(alloc, &attributes, signer, key) {
+        Ok(attributes) => match sign(alloc, &attributes, holder) {
             Ok(signature) => with_signature(alloc, sid, &attributes, signature.value()),
             Err(error) => {
                 drop(attributes);
                 Err(error)
             }
         },
-        Err(error) => Err(refused(error)),
+        Err(error) => Err(unwritten(error)),
     }
 }
 
@@ -203,7 +204,8 @@ pub(crate) fn signer_for<S: Signer, D: Digester>(
         Ok(public) => {
             let sid = public.key_identifier(digester);
             drop(public);
-            signed_for(alloc, sid, content, time, signer, key, digester)
+            let holder = Holder { signer, key };
+            signed_for(alloc, sid, content, time, &holder, digester)
         }
         Err(error) => Err(error),
     }

@@ -57,14 +57,6 @@ fn as_set(alloc: Global, answer: &mut Answer, octets: &[u8]) {
     }
 }
 
-// The family of a word.
-fn family_of(word: &str) -> AddressFamily {
-    if word == "4" {
-        return AddressFamily::Ipv4;
-    }
-    AddressFamily::Ipv6
-}
-
 // A family that has to be there.
 fn family(alloc: Global, answer: &mut Answer, octets: &[u8]) {
     match Mode::Der.decode(octets, |cons| AddressFamily::take_from(alloc, cons)) {
@@ -169,9 +161,13 @@ fn families(alloc: Global, answer: &mut Answer, octets: &[u8]) -> Result<()> {
     }
 }
 
-// A question about the values of a family.
+// A question about the values of a family: IPv4 where the word for it is `4`, else IPv6.
 fn of_family(alloc: Global, answer: &mut Answer, words: &[&str], octets: &[u8]) -> Result<()> {
-    let family = family_of(word_at(words, 2));
+    let family = if word_at(words, 2) == "4" {
+        AddressFamily::Ipv4
+    } else {
+        AddressFamily::Ipv6
+    };
     match word_at(words, 0) {
         "prefix" => prefixes(alloc, answer, family, octets),
         "range" => ranges(alloc, answer, family, octets),

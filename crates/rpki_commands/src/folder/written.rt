@@ -1,16 +1,17 @@
 //! The bundle that a folder gives, written.
 
-ghost use Rattle.std.specs.Prelude.{◌≡◌, ◌<◌, ◌-◌, ◌^◌, IfOk, IfErr, OnOk, MatchResult, List, ℕ};
+ghost use Rattle.std.specs.Prelude.{◌≡◌, ◌<◌, ◌-◌, ◌^◌, IfOk, IfErr, OnOk, List, ℕ};
 ghost use Rattle.rpki_commands.specs.rpki_bundle.Bundle.{BundleText};
 ghost use Rattle.rpki_commands.specs.rpki_bundle.Errors.{OnNotABundle};
 ghost use Rattle.rpki_commands.specs.rpki_bundle.declared.error.BundleError.TheVariants.{NotABundle as not_a_bundle};
+ghost use Rattle.rpki_validator.specs.Run.{CountsWrites};
 ghost use Rattle.rpki_commands.specs.Folders.{OnMemory, TellsLines, value_of};
-ghost use Rattle.rpki_commands.specs.Texts.{TellsText, TellsNoText, WritesContents, ContentsFail, WritesReading, ReadingFails, WritesBundle, BundleFails, CountsFault};
+ghost use Rattle.rpki_commands.specs.Texts.{TellsText, TellsNoText, WritesContents, ContentsFail, WritesReading, ReadingFails, WritesBundle, BundleFails};
 
+use crate::folder::ReadFault;
 use crate::folder::parts::{Contents, Parts, parts_of};
 use crate::folder::walk::read_folder;
-use crate::folder::{Fault, ReadFault};
-use rpki_validator::{Bundle, BundleError, Counted, Version, write_all};
+use rpki_validator::{Bundle, BundleError, Counted, RunError, Version, write_all};
 use std::alloc::Global;
 use std::io::Write;
 use std::rt::Files;
@@ -21,19 +22,22 @@ fn bundle_of(parts: Parts) -> Result<Bundle, BundleError>
     ensures refused { IfErr result (λ e. (e ≡ not_a_bundle)
         × ((octets : List ℕ) → BundleText octets (value_of parts) → ⊥)) }
 {
-    let Parts {
-        version,
-        moment,
-        depth,
-        locators,
-        objects,
-        verdicts,
-    } = parts;
-    match version {
-        Version::Zero => Bundle::from_parts(moment, depth, locators, objects, verdicts),
-        Version::One { relaxed } => {
-            Bundle::from_parts_v1(relaxed, moment, depth, locators, objects, verdicts)
-        }
+    match parts.version {
+        Version::Zero => Bundle::from_parts(
+            parts.moment,
+            parts.depth,
+            parts.locators,
+            parts.objects,
+            parts.verdicts,
+        ),
+        Version::One { relaxed } => Bundle::from_parts_v1(
+            relaxed,
+            parts.moment,
+            parts.depth,
+            parts.locators,
+            parts.objects,
+            parts.verdicts,
+        ),
     }
 }
 
@@ -62,66 +66,64 @@ pub fn write_contents<W: Write>(
     alloc: Global,
     contents: Contents,
     writer: &mut Counted<W>,
-) -> Result<(), Fault>
+) -> Result<(), RunError>
     requires few_writes { writer.old.failures < 2 ^ 64 - 1 }
 
     ensures ok { OnOk result
         (WritesContents contents (W.contents writer.old.inner) (W.contents writer.new.inner)) }
     ensures refused { IfErr result (λ e. ContentsFail contents e
         (W.contents writer.old.inner) (W.contents writer.new.inner)) }
-    ensures count { MatchResult result (λ _. writer.new.failures ≡ writer.old.failures)
-        (λ e. CountsFault e writer.old.failures writer.new.failures) }
+    ensures count { CountsWrites result writer.old.failures writer.new.failures }
 {
     let text = match text_of(alloc, contents) {
         Ok(text) => text,
-        Err(BundleError::NotABundle) => return Err(Fault::NotABundle),
-        Err(BundleError::Memory) => return Err(Fault::Memory),
+        Err(BundleError::NotABundle) => return Err(RunError::NotABundle),
+        Err(BundleError::Memory) => return Err(RunError::Memory),
     };
     match write_all(writer, text.as_slice()) {
         Ok(()) => Ok(()),
-        Err(_) => Err(Fault::Write),
+        Err(_) => Err(RunError::Write),
     }
 }
 
-/// Writes the bundle that a folder gives, by what reading it answered; a fault of the reading is told as that fault, and
-/// nothing is written then.
+/// Writes the bundle that a folder gives, by what reading it answered; a fault of the reading is told as that fault, too many
+/// octets are told as no bundle, and nothing is written then.
 pub fn write_reading<W: Write>(
     alloc: Global,
     reading: Result<Option<Contents>, ReadFault>,
     writer: &mut Counted<W>,
-) -> Result<(), Fault>
+) -> Result<(), RunError>
     requires few_writes { writer.old.failures < 2 ^ 64 - 1 }
 
     ensures ok { OnOk result
         (WritesReading reading (W.contents writer.old.inner) (W.contents writer.new.inner)) }
     ensures refused { IfErr result (λ e. ReadingFails reading e
         (W.contents writer.old.inner) (W.contents writer.new.inner)) }
-    ensures count { MatchResult result (λ _. writer.new.failures ≡ writer.old.failures)
-        (λ e. CountsFault e writer.old.failures writer.new.failures) }
+    ensures count { CountsWrites result writer.old.failures writer.new.failures }
 {
     match reading {
         Ok(Some(contents)) => write_contents(alloc, contents, writer),
-        Ok(None) => Err(Fault::NotABundle),
-        Err(ReadFault::Read) => Err(Fault::Read),
-        Err(ReadFault::Memory) => Err(Fault::Memory),
+        Ok(None) => Err(RunError::NotABundle),
+        Err(ReadFault::Read) => Err(RunError::Read),
+        Err(ReadFault::Memory) => Err(RunError::Memory),
     }
 }
 
-/// Reads a folder, and writes the bundle that it gives. Nothing is written before all was read.
+/// Reads a folder, and writes the bundle that it gives. Nothing is written before all was read. `Read` where something in the
+/// folder can't be read, is missing, or is too much.
 pub fn write_bundle<R: Files + AllocGlobal + Clone + Drop, W: Write>(
     rt: &R,
     alloc: Global,
     folder: &str,
     writer: &mut Counted<W>,
-) -> Result<(), Fault>
+) -> Result<(), RunError>
     requires few_writes { writer.old.failures < 2 ^ 64 - 1 }
 
     ensures ok { OnOk result
         (WritesBundle (W.contents writer.old.inner) (W.contents writer.new.inner)) }
     ensures refused { IfErr result
         (λ e. BundleFails e (W.contents writer.old.inner) (W.contents writer.new.inner)) }
-    ensures count { MatchResult result (λ _. writer.new.failures ≡ writer.old.failures)
-        (λ e. CountsFault e writer.old.failures writer.new.failures) }
+    ensures count { CountsWrites result writer.old.failures writer.new.failures }
 {
     let reading = read_folder(rt, alloc, folder);
     write_reading(alloc, reading, writer)

@@ -1,9 +1,8 @@
-//! Under which key a URI is looked up, and a file of a manifest, and whether a key is that of a file.
+//! Under which key a URI is looked up, and a file of a manifest.
 
-ghost use Rattle.std.specs.Prelude.{◌≡◌, ◌↔◌, IfOk, IsTrue};
+ghost use Rattle.std.specs.Prelude.{◌≡◌, IfOk};
 ghost use Rattle.rpki_standing.specs.certs_basics.Paths.{join as joined};
 ghost use Rattle.rpki_standing.specs.certs_basics.Uris.{lookup_key as key_of};
-ghost use Rattle.rpki_rules.specs.Words.{Mem};
 
 use bytes::Bytes;
 use certs_cert::Rsync;
@@ -29,18 +28,4 @@ pub fn key_in(alloc: Global, folder: &Rsync, name: &[u8]) -> Result<Bytes, Alloc
     let uri = join(alloc, folder.as_slice(), name)?;
     let key = key_at(alloc, uri.as_slice())?;
     Ok(key)
-}
-
-/// Whether the lookup key is one of those. They are gone through, one by one.
-pub fn is_listed(files: &[Bytes], key: &[u8]) -> bool
-    ensures { IsTrue result ↔ Mem files.now key.now }
-{
-    let mut rest = files;
-    while let Some((file, others)) = rest.split_first() {
-        if file.as_slice() == key {
-            return true;
-        }
-        rest = others;
-    }
-    false
 }

@@ -1,7 +1,7 @@
 //! The lists of a bundle, looked up.
 
 ghost use Rattle.std.specs.Prelude.{◌≡◌, ◌↔◌, ◌≤◌, IsTrue, IfNone, IfSome, None, Some, length, map};
-ghost use Rattle.rpki_standing.specs.resources_chain.Rows.{Looks as ProbesAtMost};
+ghost use Rattle.rpki_standing.specs.resources_chain.Rows.{ProbesAtMost};
 ghost use Rattle.rpki_rules.specs.certs_basics.Uris.{lookup_key};
 ghost use Rattle.rpki_rules.specs.Words.{Mem, NoRepeat};
 ghost use Rattle.rpki_rules.specs.World.{find_object, is_strict};

@@ -3,7 +3,7 @@
 ghost use Rattle.std.specs.Prelude.{◌≡◌, ◌<◌, ◌≤◌, ℕ, List, MatchOption, length};
 ghost use Rattle.std.specs.Ordering.{nat_cmp};
 ghost use Rattle.std.specs.Cmp.Lexicographic.{slice_cmp};
-ghost use Rattle.rpki_standing.specs.resources_chain.Rows.{Looks as ProbesAtMost};
+ghost use Rattle.rpki_standing.specs.resources_chain.Rows.{ProbesAtMost};
 ghost use Rattle.rpki_standing.specs.rpki_bundle.Orders.{Ascends};
 ghost use Rattle.rpki_standing.specs.Places.{IsPlace, stands_at};
 

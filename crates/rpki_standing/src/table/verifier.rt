@@ -1,7 +1,7 @@
 //! The verifier that a bundle's table is.
 
 ghost use Rattle.std.specs.Prelude.{◌≡◌, ◌+◌, ◌-◌, ◌^◌, length, min};
-ghost use Rattle.rpki_standing.specs.resources_chain.Rows.{Looks as ProbesAtMost};
+ghost use Rattle.rpki_standing.specs.resources_chain.Rows.{ProbesAtMost};
 ghost use Rattle.rpki_rules.specs.certs_key.Digesting.{digests_of};
 ghost use Rattle.rpki_standing.specs.certs_basics.Keys.{encoded};
 ghost use Rattle.rpki_rules.specs.World.{table};

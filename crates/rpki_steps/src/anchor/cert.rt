@@ -2,16 +2,15 @@
 
 ghost use Rattle.std.specs.Prelude.{◌≡◌, ◌↔◌, IfOk, IsTrue};
 ghost use Rattle.certs_verify.specs.Answers.{AsksOnce};
-ghost use Rattle.rpki_steps.specs.certs_key.Digesting.{digests_of};
 ghost use Rattle.rpki_rules.specs.Certs.{encoded};
-ghost use Rattle.rpki_rules.specs.World.{world_of};
+ghost use Rattle.rpki_standing.specs.Readers.{SameReader, world_by};
 ghost use Rattle.rpki_steps.specs.Anchored.{FindsAnchor};
 
 use crate::cert::tests::cert_test;
 use crate::cert::validated::accepted_or_refused;
 use certs_verify::{Cert, Digester, PublicKey, ResourceCert, TalInfo, Validate, Verifier};
 use rpki_rules::reason::AnchorTest;
-use rpki_standing::table::Index;
+use rpki_standing::BundleReader;
 use std::alloc::AllocError;
 use std::rc::Rc;
 
@@ -29,23 +28,20 @@ pub fn anchor_cert<D: Digester, V: Verifier>(
     cert: Cert,
     key: &PublicKey,
     tal: Rc<TalInfo>,
-    index: &Index<'_>,
-    digester: &D,
-    verifier: &mut V,
+    reader: &mut BundleReader<'_, D, V>,
 ) -> Result<Result<ResourceCert, AnchorTest>, AllocError>
-    ensures found { IfOk result (FindsAnchor (world_of
-        (digests_of D.sha256_digest D.sha1_digest digester.now) (V.says verifier.old) index.now)
-        key.now tal.value cert) }
-    ensures same { V.says verifier.new ≡ V.says verifier.old }
-    ensures asked { AsksOnce (V.count verifier.old) (V.count verifier.new) }
+    ensures found { IfOk result (FindsAnchor
+        (world_by D.sha256_digest D.sha1_digest V.says reader.old) key.now tal.value cert) }
+    ensures same { SameReader V.says reader.old reader.new }
+    ensures asked { AsksOnce (V.count reader.old.verifier.now) (V.count reader.new.verifier.now) }
 {
     if !has_key(&cert, key) {
         drop(tal);
         drop(cert);
         return Ok(Err(AnchorTest::SameKey));
     }
-    let now = index.moment();
-    let validated = cert.validate_ta_at(tal, true, now, digester, verifier);
+    let now = reader.index.moment();
+    let validated = cert.validate_ta_at(tal, true, now, reader.digester, reader.verifier);
     match accepted_or_refused(validated)? {
         Ok(anchor) => Ok(Ok(anchor)),
         Err(error) => {

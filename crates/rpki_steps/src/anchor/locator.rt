@@ -4,8 +4,7 @@ ghost use Rattle.std.specs.Prelude.{◌≡◌, IfOk};
 ghost use Rattle.std.specs.Str.Lossy.{utf8_lossy};
 ghost use Rattle.std.specs.String.{string_bytes};
 ghost use Rattle.rpki_steps.specs.Holders.{cert_of, sets_of};
-ghost use Rattle.rpki_steps.specs.certs_key.Digesting.{digests_of};
-ghost use Rattle.rpki_rules.specs.World.{world_of};
+ghost use Rattle.rpki_standing.specs.Readers.{SameReader, world_by};
 ghost use Rattle.rpki_walk.specs.Asked.{HasLocatorReason};
 ghost use Rattle.rpki_walk.specs.Repository.{IsAnchorLookup};
 ghost use Rattle.rpki_standing.specs.Lookups.{HoldsAt};
@@ -18,8 +17,9 @@ use bytes::Bytes;
 use certs_verify::{Digester, PublicKey, ResourceCert, TalInfo, Verifier};
 use rpki_rules::reason::LocatorReason;
 use rpki_rules::reason::laws::locator_reasons_refuse;
+use rpki_standing::BundleReader;
 use rpki_standing::anchors::{LocatorLookup, Tal, follow, read_cert};
-use rpki_standing::table::{Index, Locator, Object};
+use rpki_standing::table::{Locator, Object};
 use rpki_walk::AnchorLookup;
 use std::alloc::{AllocError, Global};
 use std::rc::Rc;
@@ -47,19 +47,16 @@ fn anchor_in<D: Digester, V: Verifier>(
     octets: &Bytes,
     key: &PublicKey,
     name: Rc<TalInfo>,
-    index: &Index<'_>,
-    digester: &D,
-    verifier: &mut V,
+    reader: &mut BundleReader<'_, D, V>,
 ) -> Result<Result<ResourceCert, LocatorReason>, AllocError>
-    ensures found { IfOk result (FindsAnchorIn (world_of
-        (digests_of D.sha256_digest D.sha1_digest digester.now) (V.says verifier.old) index.now)
-        key.now name.value octets.now) }
-    ensures same { V.says verifier.new ≡ V.says verifier.old }
+    ensures found { IfOk result (FindsAnchorIn
+        (world_by D.sha256_digest D.sha1_digest V.says reader.old) key.now name.value octets.now) }
+    ensures same { SameReader V.says reader.old reader.new }
 {
     let Some(cert) = read_cert(alloc, octets)? else {
         return Ok(Err(LocatorReason::NoCert));
     };
-    match anchor_cert(cert, key, name, index, digester, verifier)? {
+    match anchor_cert(cert, key, name, reader)? {
         Ok(anchor) => Ok(Ok(anchor)),
         Err(test) => Ok(Err(LocatorReason::BadAnchor(test))),
     }
@@ -71,23 +68,19 @@ fn lead_to<D: Digester, V: Verifier>(
     locator: &Locator,
     object: &Object,
     tal: &Tal,
-    index: &Index<'_>,
-    digester: &D,
-    verifier: &mut V,
+    reader: &mut BundleReader<'_, D, V>,
 ) -> Result<Result<TrustAnchor, LocatorReason>, AllocError>
-    ensures judged { IfOk result (λ judged. HoldsAt (world_of
-        (digests_of D.sha256_digest D.sha1_digest digester.now) (V.says verifier.old) index.now)
-        locator.now tal.now.key object.now.uri object.now.octets
-        → JudgesLocator (world_of
-        (digests_of D.sha256_digest D.sha1_digest digester.now) (V.says verifier.old) index.now)
-        locator.now judged) }
-    ensures same { V.says verifier.new ≡ V.says verifier.old }
+    ensures judged { IfOk result (λ judged.
+        let w = world_by D.sha256_digest D.sha1_digest V.says reader.old
+        in HoldsAt w locator.now tal.now.key object.now.uri object.now.octets
+        → JudgesLocator w locator.now judged) }
+    ensures same { SameReader V.says reader.old reader.new }
 {
     addresses_are_whole();
     let name = name_of(alloc, locator)?;
     let uri = object.uri.clone()?;
     let key = tal.key_info();
-    match anchor_in(alloc, &object.octets, key, name, index, digester, verifier)? {
+    match anchor_in(alloc, &object.octets, key, name, reader)? {
         Ok(anchor) => {
             let authority = Authority::new(anchor);
             Ok(Ok(TrustAnchor { uri, authority }))
@@ -102,20 +95,17 @@ fn lead_to<D: Digester, V: Verifier>(
 pub fn judged_locator<D: Digester, V: Verifier>(
     alloc: Global,
     locator: &Locator,
-    index: &Index<'_>,
-    digester: &D,
-    verifier: &mut V,
+    reader: &mut BundleReader<'_, D, V>,
 ) -> Result<Result<TrustAnchor, LocatorReason>, AllocError>
-    ensures judged { IfOk result (JudgesLocator (world_of
-        (digests_of D.sha256_digest D.sha1_digest digester.now) (V.says verifier.old) index.now)
-        locator.now) }
-    ensures same { V.says verifier.new ≡ V.says verifier.old }
+    ensures judged { IfOk result (JudgesLocator
+        (world_by D.sha256_digest D.sha1_digest V.says reader.old) locator.now) }
+    ensures same { SameReader V.says reader.old reader.new }
 {
-    match follow(alloc, locator, index)? {
+    match follow(alloc, locator, &reader.index)? {
         LocatorLookup::Unreadable(fault) => Ok(Err(LocatorReason::BadText(fault))),
         LocatorLookup::Nowhere => Ok(Err(LocatorReason::NoneHeld)),
         LocatorLookup::Held(object, tal) => {
-            let led = lead_to(alloc, locator, object, &tal, index, digester, verifier);
+            let led = lead_to(alloc, locator, object, &tal, reader);
             drop(tal);
             led
         }
@@ -127,17 +117,14 @@ pub fn judged_locator<D: Digester, V: Verifier>(
 pub fn read_locator<D: Digester, V: Verifier>(
     alloc: Global,
     locator: &Locator,
-    index: &Index<'_>,
-    digester: &D,
-    verifier: &mut V,
+    reader: &mut BundleReader<'_, D, V>,
 ) -> Result<AnchorLookup<Authority>, AllocError>
-    ensures led { IfOk result (IsAnchorLookup cert_of sets_of (world_of
-        (digests_of D.sha256_digest D.sha1_digest digester.now) (V.says verifier.old) index.now)
-        locator.now) }
-    ensures same { V.says verifier.new ≡ V.says verifier.old }
+    ensures led { IfOk result (IsAnchorLookup cert_of sets_of
+        (world_by D.sha256_digest D.sha1_digest V.says reader.old) locator.now) }
+    ensures same { SameReader V.says reader.old reader.new }
 {
     locator_reasons_refuse();
-    match judged_locator(alloc, locator, index, digester, verifier)? {
+    match judged_locator(alloc, locator, reader)? {
         Ok(anchor) => {
             let TrustAnchor { uri, authority } = anchor;
             Ok(AnchorLookup::Anchor(uri, authority))
@@ -153,17 +140,14 @@ pub fn read_locator<D: Digester, V: Verifier>(
 pub fn locator_reason<D: Digester, V: Verifier>(
     alloc: Global,
     locator: &Locator,
-    index: &Index<'_>,
-    digester: &D,
-    verifier: &mut V,
+    reader: &mut BundleReader<'_, D, V>,
 ) -> Result<Option<LocatorReason>, AllocError>
-    ensures reason { IfOk result (HasLocatorReason (world_of
-        (digests_of D.sha256_digest D.sha1_digest digester.now) (V.says verifier.old) index.now)
-        locator.now) }
-    ensures same { V.says verifier.new ≡ V.says verifier.old }
+    ensures reason { IfOk result (HasLocatorReason
+        (world_by D.sha256_digest D.sha1_digest V.says reader.old) locator.now) }
+    ensures same { SameReader V.says reader.old reader.new }
 {
     locator_reasons_refuse();
-    match judged_locator(alloc, locator, index, digester, verifier)? {
+    match judged_locator(alloc, locator, reader)? {
         Ok(anchor) => {
             drop(anchor);
             Ok(None)

@@ -4,16 +4,15 @@ ghost use Rattle.std.specs.Prelude.{◌≡◌, ◌↔◌, ◌+◌, ◌≤◌, If
 ghost use Rattle.rpki_rules.specs.Chains.{CertAt};
 ghost use Rattle.rpki_rules.specs.Points.{Anchor, IsAnchorCert};
 ghost use Rattle.rpki_rules.specs.Words.{Mem};
-ghost use Rattle.rpki_rules.specs.World.{world_of};
+ghost use Rattle.rpki_standing.specs.Readers.{SameReader, world_by};
 ghost use Rattle.rpki_standing.specs.rpki_bundle.declared.parts.Locator.{Locator as LocatorValue};
-ghost use Rattle.rpki_standing.specs.certs_key.Digesting.{digests_of};
 ghost use Rattle.rpki_steps.specs.NamedAnchors.{IsAnchorOf};
 
 use rpki_rules::reason::laws::anchor_tests_are_rules;
 use rpki_standing::anchors::laws::{no_lead, one_lead};
 use rpki_standing::anchors::{LocatorLookup, follow};
 use rpki_standing::table::{Locator, Object};
-use rpki_standing::{Cert, Digester, Index, PublicKey, Verifier, check_anchor_cert};
+use rpki_standing::{BundleReader, Cert, Digester, PublicKey, Verifier, check_anchor_cert};
 use std::alloc::{AllocError, Global};
 
 /// The locator of that name among those. They are gone through, one by one.
@@ -40,18 +39,15 @@ fn is_anchor_there<D: Digester, V: Verifier>(
     key: &PublicKey,
     uri: &[u8],
     cert: &Cert,
-    index: &Index<'_>,
-    digester: &D,
-    verifier: &mut V,
+    reader: &mut BundleReader<'_, D, V>,
 ) -> bool
-    ensures anchor { IsTrue result ↔ ((object.now.uri ≡ uri.now) × IsAnchorCert (world_of
-        (digests_of D.sha256_digest D.sha1_digest digester.now) (V.says verifier.old) index.now)
-        key.now cert.now) }
-    ensures same { V.says verifier.new ≡ V.says verifier.old }
-    ensures asked { V.count verifier.new ≤ V.count verifier.old + 1 }
+    ensures anchor { IsTrue result ↔ ((object.now.uri ≡ uri.now) × IsAnchorCert
+        (world_by D.sha256_digest D.sha1_digest V.says reader.old) key.now cert.now) }
+    ensures same { SameReader V.says reader.old reader.new }
+    ensures asked { V.count reader.new.verifier.now ≤ V.count reader.old.verifier.now + 1 }
 {
     anchor_tests_are_rules();
-    object.uri.as_slice() == uri && check_anchor_cert(cert, key, index, digester, verifier).is_ok()
+    object.uri.as_slice() == uri && check_anchor_cert(cert, key, reader).is_ok()
 }
 
 /// Whether the certificate at the lookup key is the anchor to which the locator leads. The verifier is asked once, at most.
@@ -60,24 +56,21 @@ pub fn is_anchor_of<D: Digester, V: Verifier>(
     locator: &Locator,
     uri: &[u8],
     cert: &Cert,
-    index: &Index<'_>,
-    digester: &D,
-    verifier: &mut V,
+    reader: &mut BundleReader<'_, D, V>,
 ) -> Result<bool, AllocError>
-    requires { CertAt (world_of (digests_of D.sha256_digest D.sha1_digest digester.now)
-        (V.says verifier.old) index.now) uri.now cert.now }
-    ensures anchor { IfOk result (λ yes. IsTrue yes ↔ IsAnchorOf (world_of
-        (digests_of D.sha256_digest D.sha1_digest digester.now) (V.says verifier.old) index.now)
+    requires { CertAt (world_by D.sha256_digest D.sha1_digest V.says reader.old) uri.now cert.now }
+    ensures anchor { IfOk result (λ yes. IsTrue yes ↔ IsAnchorOf
+        (world_by D.sha256_digest D.sha1_digest V.says reader.old)
         locator.now (record { uri = uri.now; cert = cert.now })) }
-    ensures same { V.says verifier.new ≡ V.says verifier.old }
-    ensures asked { V.count verifier.new ≤ V.count verifier.old + 1 }
+    ensures same { SameReader V.says reader.old reader.new }
+    ensures asked { V.count reader.new.verifier.now ≤ V.count reader.old.verifier.now + 1 }
 {
     one_lead();
     no_lead();
-    let LocatorLookup::Held(object, tal) = follow(alloc, locator, index)? else {
+    let LocatorLookup::Held(object, tal) = follow(alloc, locator, &reader.index)? else {
         return Ok(false);
     };
-    let is = is_anchor_there(object, tal.key_info(), uri, cert, index, digester, verifier);
+    let is = is_anchor_there(object, tal.key_info(), uri, cert, reader);
     drop(tal);
     Ok(is)
 }
@@ -89,20 +82,17 @@ pub fn is_anchor<D: Digester, V: Verifier>(
     name: &[u8],
     uri: &[u8],
     cert: &Cert,
-    index: &Index<'_>,
-    digester: &D,
-    verifier: &mut V,
+    reader: &mut BundleReader<'_, D, V>,
 ) -> Result<bool, AllocError>
-    requires { CertAt (world_of (digests_of D.sha256_digest D.sha1_digest digester.now)
-        (V.says verifier.old) index.now) uri.now cert.now }
-    ensures anchor { IfOk result (λ yes. IsTrue yes ↔ Anchor (world_of
-        (digests_of D.sha256_digest D.sha1_digest digester.now) (V.says verifier.old) index.now)
+    requires { CertAt (world_by D.sha256_digest D.sha1_digest V.says reader.old) uri.now cert.now }
+    ensures anchor { IfOk result (λ yes. IsTrue yes ↔ Anchor
+        (world_by D.sha256_digest D.sha1_digest V.says reader.old)
         name.now (record { uri = uri.now; cert = cert.now })) }
-    ensures same { V.says verifier.new ≡ V.says verifier.old }
-    ensures asked { V.count verifier.new ≤ V.count verifier.old + 1 }
+    ensures same { SameReader V.says reader.old reader.new }
+    ensures asked { V.count reader.new.verifier.now ≤ V.count reader.old.verifier.now + 1 }
 {
-    let Some(locator) = locator_named(index.locators(), name) else {
+    let Some(locator) = locator_named(reader.index.locators(), name) else {
         return Ok(false);
     };
-    is_anchor_of(alloc, locator, uri, cert, index, digester, verifier)
+    is_anchor_of(alloc, locator, uri, cert, reader)
 }

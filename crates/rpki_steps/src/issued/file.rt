@@ -1,10 +1,9 @@
 //! Files of a publication point that are certificates (RFC 6481 2.2, RFC 6487 7.2).
 
-ghost use Rattle.std.specs.Prelude.{◌≡◌, IfOk, List, ℕ};
-ghost use Rattle.rpki_steps.specs.certs_key.Digesting.{digests_of};
+ghost use Rattle.std.specs.Prelude.{IfOk, List, ℕ};
 ghost use Rattle.rpki_rules.specs.Certs.{CertText};
 ghost use Rattle.rpki_rules.specs.Chains.{HasExtension, cer};
-ghost use Rattle.rpki_rules.specs.World.{world_of};
+ghost use Rattle.rpki_standing.specs.Readers.{SameReader, world_by};
 ghost use Rattle.rpki_steps.specs.Below.{FindsChild};
 ghost use Rattle.rpki_steps.specs.Files.{JudgesFile};
 
@@ -15,8 +14,7 @@ use certs_verify::{Cert, Digester, Verifier};
 use rpki_rules::reason::{CerTest, FileReason};
 use rpki_standing::anchors::cert_at;
 use rpki_standing::payloads::Payload;
-use rpki_standing::table::Index;
-use rpki_standing::{StandingPoint, check_revocation};
+use rpki_standing::{BundleReader, StandingPoint, check_revocation};
 use rpki_walk::FileKind;
 use std::alloc::{AllocError, Global};
 
@@ -27,15 +25,12 @@ fn child_at<D: Digester, V: Verifier>(
     cert: Cert,
     ca: &Authority,
     point: &StandingPoint,
-    index: &Index<'_>,
-    digester: &D,
-    verifier: &mut V,
+    reader: &mut BundleReader<'_, D, V>,
 ) -> Result<Result<Authority, CerTest>, AllocError>
     requires { (octets : List ℕ) × CertText octets cert }
-    ensures found { IfOk result (FindsChild (world_of
-        (digests_of D.sha256_digest D.sha1_digest digester.now) (V.says verifier.old) index.now)
-        ca.now point.now.point cert) }
-    ensures same { V.says verifier.new ≡ V.says verifier.old }
+    ensures found { IfOk result (FindsChild
+        (world_by D.sha256_digest D.sha1_digest V.says reader.old) ca.now point.now.point cert) }
+    ensures same { SameReader V.says reader.old reader.new }
 {
     match check_revocation(alloc, &cert, point.manifest_cert(), point.crl()) {
         Ok(Ok(())) => {}
@@ -49,7 +44,7 @@ fn child_at<D: Digester, V: Verifier>(
         }
     }
     addresses_are_whole();
-    match authority_below(alloc, cert, ca.verified(), index, digester, verifier)? {
+    match authority_below(alloc, cert, ca.verified(), reader)? {
         Ok(child) => Ok(Ok(Authority::new(child))),
         Err(test) => Ok(Err(test)),
     }
@@ -62,24 +57,21 @@ pub fn judged_cert_file<D: Digester, V: Verifier>(
     ca: &Authority,
     point: &StandingPoint,
     uri: &[u8],
-    index: &Index<'_>,
-    digester: &D,
-    verifier: &mut V,
+    reader: &mut BundleReader<'_, D, V>,
 ) -> Result<Result<FileKind<Authority, Payload>, FileReason>, AllocError>
     ensures judged { IfOk result (λ judged. HasExtension cer uri.now
-        → JudgesFile (world_of
-        (digests_of D.sha256_digest D.sha1_digest digester.now) (V.says verifier.old) index.now)
+        → JudgesFile (world_by D.sha256_digest D.sha1_digest V.says reader.old)
         ca.now point.now.point uri.now judged) }
-    ensures same { V.says verifier.new ≡ V.says verifier.old }
+    ensures same { SameReader V.says reader.old reader.new }
 {
-    let Some(cert) = cert_at(alloc, uri, index)? else {
+    let Some(cert) = cert_at(alloc, uri, &reader.index)? else {
         return Ok(Err(FileReason::BadCer));
     };
     if cert.tbs().basic_ca() != Some(true) {
         drop(cert);
         return Ok(Ok(FileKind::Nothing));
     }
-    match child_at(alloc, cert, ca, point, index, digester, verifier)? {
+    match child_at(alloc, cert, ca, point, reader)? {
         Ok(child) => Ok(Ok(FileKind::Child(child))),
         Err(test) => Ok(Err(FileReason::CerFails(test))),
     }

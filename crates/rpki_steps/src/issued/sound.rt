@@ -5,15 +5,14 @@ ghost use Rattle.rpki_judge.specs.Evidence.{IsBelow};
 ghost use Rattle.rpki_rules.specs.Chains.{CertAt, HasExtension, IsSound, cer};
 ghost use Rattle.rpki_rules.specs.Points.{files as files_by};
 ghost use Rattle.rpki_rules.specs.Words.{Mem};
-ghost use Rattle.rpki_rules.specs.World.{world_of};
-ghost use Rattle.rpki_standing.specs.certs_key.Digesting.{digests_of};
+ghost use Rattle.rpki_standing.specs.Readers.{SameReader, world_by};
 
 use bytes::Bytes;
 use rpki_rules::reason::laws::{cert_tests_are_rules, revocation_tests_are_rules};
 use rpki_standing::payloads::{Extension, extension_of};
 use rpki_standing::points::is_listed;
 use rpki_standing::{
-    Cert, Digester, Index, StandingPoint, Verifier, check_authority_cert, check_revocation,
+    BundleReader, Cert, Digester, StandingPoint, Verifier, check_authority_cert, check_revocation,
 };
 use std::alloc::{AllocError, Global};
 
@@ -38,20 +37,18 @@ pub fn is_sound_below<D: Digester, V: Verifier>(
     ca: &Cert,
     point: &StandingPoint,
     cert: &Cert,
-    index: &Index<'_>,
-    digester: &D,
-    verifier: &mut V,
+    reader: &mut BundleReader<'_, D, V>,
 ) -> Result<bool, AllocError>
-    ensures sound { IfOk result (λ yes. IsTrue yes ↔ IsSound (world_of
-        (digests_of D.sha256_digest D.sha1_digest digester.now) (V.says verifier.old) index.now)
+    ensures sound { IfOk result (λ yes. IsTrue yes ↔ IsSound
+        (world_by D.sha256_digest D.sha1_digest V.says reader.old)
         ca.now point.now.point cert.now) }
-    ensures same { V.says verifier.new ≡ V.says verifier.old }
-    ensures asked { V.count verifier.new ≤ V.count verifier.old + 1 }
+    ensures same { SameReader V.says reader.old reader.new }
+    ensures asked { V.count reader.new.verifier.now ≤ V.count reader.old.verifier.now + 1 }
 {
     cert_tests_are_rules();
     revocation_tests_are_rules();
     match check_revocation(alloc, cert, point.manifest_cert(), point.crl())? {
-        Ok(()) => Ok(check_authority_cert(cert, ca, index, digester, verifier).is_ok()),
+        Ok(()) => Ok(check_authority_cert(cert, ca, reader).is_ok()),
         Err(_) => Ok(false),
     }
 }
@@ -64,21 +61,19 @@ pub fn is_below<D: Digester, V: Verifier>(
     point: &StandingPoint,
     uri: &[u8],
     cert: &Cert,
-    index: &Index<'_>,
-    digester: &D,
-    verifier: &mut V,
+    reader: &mut BundleReader<'_, D, V>,
 ) -> Result<bool, AllocError>
-    requires at { CertAt (world_of (digests_of D.sha256_digest D.sha1_digest digester.now)
-        (V.says verifier.old) index.now) uri.now cert.now }
+    requires at { CertAt (world_by D.sha256_digest D.sha1_digest V.says reader.old)
+        uri.now cert.now }
     requires listed { point.now.keys ≡ files_by ca.now point.now.point.manifest }
-    ensures below { IfOk result (λ yes. IsTrue yes ↔ IsBelow (world_of
-        (digests_of D.sha256_digest D.sha1_digest digester.now) (V.says verifier.old) index.now)
+    ensures below { IfOk result (λ yes. IsTrue yes ↔ IsBelow
+        (world_by D.sha256_digest D.sha1_digest V.says reader.old)
         ca.now point.now.point uri.now cert.now) }
-    ensures same { V.says verifier.new ≡ V.says verifier.old }
-    ensures asked { V.count verifier.new ≤ V.count verifier.old + 1 }
+    ensures same { SameReader V.says reader.old reader.new }
+    ensures asked { V.count reader.new.verifier.now ≤ V.count reader.old.verifier.now + 1 }
 {
     if !is_cer_file(point.files(), uri) {
         return Ok(false);
     }
-    is_sound_below(alloc, ca, point, cert, index, digester, verifier)
+    is_sound_below(alloc, ca, point, cert, reader)
 }

@@ -1,10 +1,9 @@
 //! Files of a publication point that attest something (RFC 6481 2.2, RFC 6488 3, RFC 9582 5,
 //! draft-ietf-sidrops-aspa-profile 4).
 
-ghost use Rattle.std.specs.Prelude.{◌≡◌, ◌⊎◌, IfErr, IfOk, MatchOption, List, ℕ};
+ghost use Rattle.std.specs.Prelude.{◌⊎◌, IfErr, IfOk, MatchOption, List, ℕ};
 ghost use Rattle.rpki_steps.specs.Holders.{cert_of, sets_of};
 ghost use Rattle.rpki_steps.specs.certs_basics.Lists.{FirstFailing};
-ghost use Rattle.rpki_steps.specs.certs_key.Digesting.{digests_of};
 ghost use Rattle.rpki_steps.specs.resources.Resources.{Resources};
 ghost use Rattle.rpki_steps.specs.resources_chain.Sets.{InRuns};
 ghost use Rattle.rpki_rules.specs.Attests.{OfAspa, OfRoa};
@@ -16,7 +15,8 @@ ghost use Rattle.rpki_rules.specs.Objects.{Object};
 ghost use Rattle.rpki_rules.specs.Points.{Point as PointValue, files};
 ghost use Rattle.rpki_rules.specs.ReasonViews.{ObjectUnheld, object_test_of};
 ghost use Rattle.rpki_rules.specs.Words.{Mem};
-ghost use Rattle.rpki_rules.specs.World.{World, world_of};
+ghost use Rattle.rpki_rules.specs.World.{World};
+ghost use Rattle.rpki_standing.specs.Readers.{SameReader, world_by};
 ghost use Rattle.rpki_standing.specs.Tests.{Tells};
 ghost use Rattle.rpki_standing.specs.Views.{payload_of};
 ghost use Rattle.rpki_standing.specs.objects_payload.Addresses.{roa_address};
@@ -31,12 +31,11 @@ use certs_verify::inspect::IpBlocks;
 use certs_verify::{Digester, ResourceCert, Verifier};
 use rpki_rules::AddressFamily;
 use rpki_rules::reason::{FileReason, ObjectTest};
-use rpki_standing::StandingPoint;
 use rpki_standing::attested::{Published, find_object};
 use rpki_standing::payloads::{
     AsProviderAttestation, Payload, RoaIpAddress, RoaIpAddresses, RouteOriginAttestation,
 };
-use rpki_standing::table::Index;
+use rpki_standing::{BundleReader, StandingPoint};
 use rpki_walk::FileKind;
 use rpki_walk::step::Held;
 use std::alloc::{AllocError, Global};
@@ -136,20 +135,17 @@ pub fn judged_payload_file<D: Digester, V: Verifier>(
     ca: &Authority,
     point: &StandingPoint,
     uri: &[u8],
-    index: &Index<'_>,
-    digester: &D,
-    verifier: &mut V,
+    reader: &mut BundleReader<'_, D, V>,
 ) -> Result<Result<FileKind<Authority, Payload>, FileReason>, AllocError>
     ensures judged { IfOk result (λ judged. HasExtension roa uri.now ⊎ HasExtension asa uri.now
         → Mem (files (cert_of ca.now) point.now.point.manifest) uri.now
-        → JudgesFile (world_of
-        (digests_of D.sha256_digest D.sha1_digest digester.now) (V.says verifier.old) index.now)
+        → JudgesFile (world_by D.sha256_digest D.sha1_digest V.says reader.old)
         ca.now point.now.point uri.now judged) }
-    ensures same { V.says verifier.new ≡ V.says verifier.old }
+    ensures same { SameReader V.says reader.old reader.new }
 {
     let ca = ca.verified();
     let (cert, ee, crl) = (ca.as_cert(), point.manifest_cert(), point.crl());
-    let object = match find_object(alloc, cert, ee, crl, uri, index, digester, verifier)? {
+    let object = match find_object(alloc, cert, ee, crl, uri, reader)? {
         Ok(object) => object,
         Err(reason) => return Ok(Err(reason)),
     };

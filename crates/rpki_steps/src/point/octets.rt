@@ -14,7 +14,7 @@ use crate::point::parts::read_parts;
 use crate::point::standing::Point;
 use certs_verify::ResourceCert;
 use rpki_rules::Bundle;
-use rpki_standing::{Cert, Digester, Index, Verifier, standing_point};
+use rpki_standing::{BundleReader, Cert, Digester, Index, Verifier, standing_point};
 use std::alloc::{AllocError, Global};
 
 /// What stands at the authority's publication point, by what the authority holds: the point, or nothing where it is refused,
@@ -67,8 +67,15 @@ pub fn point_unheld<D: Digester, V: Verifier>(
     ensures same { V.says verifier.new ≡ V.says verifier.old }
     ensures asked { V.count verifier.new ≤ V.count verifier.old + 3 }
 {
-    let index = Index::new(bundle);
-    let point = match standing_point(alloc, ca, &index, digester, verifier)? {
+    let mut reader = BundleReader {
+        index: Index::new(bundle),
+        digester,
+        verifier,
+    };
+    let standing = standing_point(alloc, ca, &mut reader);
+    // So the caller's verifier is the one that was asked.
+    let _asked = reader.verifier;
+    let point = match standing? {
         Ok(point) => point,
         Err(reason) => {
             drop(reason);

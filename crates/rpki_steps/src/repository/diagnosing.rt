@@ -18,8 +18,8 @@ impl<'a, D: Digester, V: Verifier> Diagnosing for BundleRepository<'a, D, V> {
         alloc: Global,
         at: usize,
     ) -> Result<Option<LocatorReason>, AllocError> {
-        let locator = &self.index.locators()[at];
-        locator_reason(alloc, locator, &self.index, self.digester, self.verifier)
+        let locator = &self.reader.index.locators()[at];
+        locator_reason(alloc, locator, &mut self.reader)
     }
 
     fn judged_point(
@@ -27,8 +27,7 @@ impl<'a, D: Digester, V: Verifier> Diagnosing for BundleRepository<'a, D, V> {
         alloc: Global,
         ca: &Authority,
     ) -> Result<Result<StandingPoint, PointReason>, AllocError> {
-        let ca = ca.verified();
-        read_point(alloc, ca, &self.index, self.digester, self.verifier)
+        read_point(alloc, ca.verified(), &mut self.reader)
     }
 
     fn file_reason(
@@ -39,7 +38,6 @@ impl<'a, D: Digester, V: Verifier> Diagnosing for BundleRepository<'a, D, V> {
         keys: &[Bytes],
         uri: &[u8],
     ) -> Result<Option<FileReason>, AllocError> {
-        let (index, digester) = (&self.index, self.digester);
-        file_reason(alloc, ca, p, keys, uri, index, digester, self.verifier)
+        file_reason(alloc, ca, p, keys, uri, &mut self.reader)
     }
 }

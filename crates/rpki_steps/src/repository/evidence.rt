@@ -1,7 +1,6 @@
 //! A bundle, as the judge asks it. Each question is answered exactly, and what chains hold is looked at nowhere.
 
-ghost use Rattle.rpki_standing.specs.certs_key.Digesting.{digests_of};
-ghost use Rattle.rpki_rules.specs.World.{world_of};
+ghost use Rattle.rpki_standing.specs.Readers.{world_by};
 
 use crate::anchor::named::is_anchor;
 use crate::cert::{claims_of, find_cert, have_one_key};
@@ -22,12 +21,11 @@ impl<'a, D: Digester, V: Verifier> Evidence for BundleRepository<'a, D, V> {
 
     type Object = Published;
 
-    ghost world = { λ e. world_of (digests_of D.sha256_digest D.sha1_digest e.digester.now)
-        (V.says e.verifier.now) e.index };
+    ghost world = { λ e. world_by D.sha256_digest D.sha1_digest V.says e.reader };
 
-    ghost asked = { λ e. V.count e.verifier.now };
+    ghost asked = { λ e. V.count e.reader.verifier.now };
 
-    ghost lender = { λ e. e.verifier.ghost_name };
+    ghost lender = { λ e. e.reader.verifier.ghost_name };
 
     ghost cert = { λ c. c };
 
@@ -40,7 +38,7 @@ impl<'a, D: Digester, V: Verifier> Evidence for BundleRepository<'a, D, V> {
     ghost payload = { λ o. o.payload };
 
     fn depth(&self) -> usize {
-        usize::from(self.index.depth())
+        usize::from(self.reader.index.depth())
     }
 
     fn have_one_key(&self, c: &Cert, other: &Cert) -> bool {
@@ -64,7 +62,7 @@ impl<'a, D: Digester, V: Verifier> Evidence for BundleRepository<'a, D, V> {
     }
 
     fn read_cert(&mut self, alloc: Global, uri: &[u8]) -> Result<Option<Cert>, AllocError> {
-        find_cert(alloc, uri, &self.index)
+        find_cert(alloc, uri, &self.reader.index)
     }
 
     fn is_anchor(
@@ -74,8 +72,7 @@ impl<'a, D: Digester, V: Verifier> Evidence for BundleRepository<'a, D, V> {
         uri: &[u8],
         c: &Cert,
     ) -> Result<bool, AllocError> {
-        let (index, digester) = (&self.index, self.digester);
-        is_anchor(alloc, locator, uri, c, index, digester, self.verifier)
+        is_anchor(alloc, locator, uri, c, &mut self.reader)
     }
 
     fn read_point(
@@ -83,7 +80,7 @@ impl<'a, D: Digester, V: Verifier> Evidence for BundleRepository<'a, D, V> {
         alloc: Global,
         ca: &Cert,
     ) -> Result<Option<StandingPoint>, AllocError> {
-        read_point(alloc, ca, &self.index, self.digester, self.verifier)
+        read_point(alloc, ca, &mut self.reader)
     }
 
     fn is_below(
@@ -94,8 +91,7 @@ impl<'a, D: Digester, V: Verifier> Evidence for BundleRepository<'a, D, V> {
         uri: &[u8],
         c: &Cert,
     ) -> Result<bool, AllocError> {
-        let (index, digester) = (&self.index, self.digester);
-        is_below(alloc, ca, p, uri, c, index, digester, self.verifier)
+        is_below(alloc, ca, p, uri, c, &mut self.reader)
     }
 
     fn read_object(
@@ -105,7 +101,6 @@ impl<'a, D: Digester, V: Verifier> Evidence for BundleRepository<'a, D, V> {
         p: &StandingPoint,
         uri: &[u8],
     ) -> Result<Option<Published>, AllocError> {
-        let (index, digester) = (&self.index, self.digester);
-        read_object(alloc, ca, p, uri, index, digester, self.verifier)
+        read_object(alloc, ca, p, uri, &mut self.reader)
     }
 }

@@ -11,12 +11,12 @@ use std::alloc::{AllocError, Global};
 
 impl<'a, D: Digester, V: Verifier> Naming for BundleRepository<'a, D, V> {
     fn locator_keys(&self, alloc: Global, at: usize) -> Result<Option<Vec<Bytes>>, AllocError> {
-        let locator = &self.index.locators()[at];
+        let locator = &self.reader.index.locators()[at];
         locator_keys(alloc, locator)
     }
 
     fn named_keys(&mut self, alloc: Global, ca: &Authority) -> Result<Vec<Bytes>, AllocError> {
-        named_keys(alloc, ca.verified().as_cert(), &self.index)
+        named_keys(alloc, ca.verified().as_cert(), &self.reader.index)
     }
 
     fn held(&self, ca: &Authority) -> Result<ResourceSet, AllocError> {

@@ -12,6 +12,17 @@ use bytes::Bytes;
 use rpki_rules::sorted::sort_once;
 use std::alloc::{AllocError, Global};
 
+// An accepted chain that is counted with all longer ones.
+#[derive(Drop)]
+struct Counted<'a> {
+    // The lookup keys of the authorities above its last certificate, the nearest to that first.
+    above: &'a [Bytes],
+    // The subject key identifiers of its certificates, the last first.
+    keys: &'a [Bytes],
+    // The lookup key of its last certificate.
+    uri: &'a Bytes,
+}
+
 // The lookup keys, each once.
 fn each_once(alloc: Global, keys: &[Bytes]) -> Result<Vec<Bytes>, AllocError>
     ensures same { IfOk result (λ v. (key : List ℕ) → Mem v.items key ↔ Mem keys.now key) }
@@ -25,40 +36,44 @@ fn each_once(alloc: Global, keys: &[Bytes]) -> Result<Vec<Bytes>, AllocError>
     Ok(all)
 }
 
-/// Counts an accepted chain and all longer ones, until the budget is spent: by the lookup keys of the authorities above its
-/// last certificate, its keys, the last first, and that certificate with its lookup key. Whether all were counted.
-pub(crate) fn count_from<S: Repository>(
+// Counts an accepted chain with this last certificate and all longer ones, until the budget is spent. Whether all were
+// counted.
+fn count_from<S: Repository>(
     alloc: Global,
     repository: &mut S,
     tally: &mut Tally,
-    above: &[Bytes],
-    keys: &[Bytes],
-    uri: &Bytes,
+    chain: &Counted<'_>,
     ca: &S::Authority,
 ) -> Result<bool, AllocError>
-    requires { length keys.now ≤ (S.world repository.old).depth }
-    ensures facts { IfOk result (CountsFrom (S.world repository.old) above.now keys.now uri.now
-        (S.cert ca.now) (S.sets ca.now) tally.old tally.new) }
+    requires { length chain.now.keys.now ≤ (S.world repository.old).depth }
+    ensures facts { IfOk result (CountsFrom (S.world repository.old) chain.now.above.now
+        chain.now.keys.now chain.now.uri.now (S.cert ca.now) (S.sets ca.now) tally.old
+        tally.new) }
     ensures budget { tally.new.budget ≡ tally.old.budget }
     ensures same { S.world repository.new ≡ S.world repository.old }
     ensures lender { S.lender repository.new ≡ S.lender repository.old }
 {
-    if !tally.add(above)? {
+    if !tally.add(chain.above)? {
         return Ok(false);
     }
     let Some(point) = repository.read_point(alloc, ca)? else {
         return Ok(true);
     };
     let files = each_once(alloc, repository.uris(ca, &point))?;
-    let below = with_first(alloc, uri, above)?;
+    let above = with_first(alloc, chain.uri, chain.above)?;
     for file in &files {
-        match classify(alloc, repository, ca, &point, keys, file.as_slice())? {
+        match classify(alloc, repository, ca, &point, chain.keys, file.as_slice())? {
             Outcome::Nothing => {}
             Outcome::Refused(_why) => {}
             Outcome::Attests(_payload) => {}
             Outcome::Child(child, key) => {
-                let more = with_first(alloc, &key, keys)?;
-                if !count_from(alloc, repository, tally, &below, &more, file, &child)? {
+                let more = with_first(alloc, &key, chain.keys)?;
+                let below = Counted {
+                    above: &above,
+                    keys: &more,
+                    uri: file,
+                };
+                if !count_from(alloc, repository, tally, &below, &child)? {
                     return Ok(false);
                 }
             }
@@ -84,7 +99,12 @@ fn count_at_anchor<S: Repository>(
     ensures lender { S.lender repository.new ≡ S.lender repository.old }
 {
     let keys = [repository.key_identifier(alloc, anchor)?];
-    count_from(alloc, repository, tally, &[], &keys, uri, anchor)
+    let chain = Counted {
+        above: &[],
+        keys: &keys,
+        uri,
+    };
+    count_from(alloc, repository, tally, &chain, anchor)
 }
 
 /// Counts all chains of the locator at that place, until the budget is spent. Whether all were counted.

@@ -5,9 +5,9 @@ ghost use Rattle.rpki_rules.specs.Words.{Mem};
 ghost use Rattle.rpki_walk.specs.resources.Resources.{HaveSame};
 ghost use Rattle.rpki_walk.specs.Remembered.{IsLike, IsRemembered, Remembers};
 
-use crate::chains::is_on;
 use bytes::Bytes;
 use resources::set::ResourceSet;
+use rpki_rules::listed::is_listed;
 use std::alloc::{AllocError, Global};
 use std::collections::HashMap;
 
@@ -46,26 +46,14 @@ fn is_same(one: &[u8], other: &[u8]) -> bool
     one == other
 }
 
-// Whether the key was met.
-fn is_met(met: &[Bytes], key: &[u8]) -> bool
-    ensures { IsTrue result ↔ Mem met.now key.now }
-{
-    for one in met {
-        if is_same(one.as_slice(), key) {
-            return true;
-        }
-    }
-    false
-}
-
 // Whether the key is among these, unless it wasn't met.
 fn is_on_if_met(keys: &[Bytes], met: &[Bytes], key: &[u8]) -> bool
     ensures { IsTrue result → Mem met.now key.now → Mem keys.now key.now }
 {
-    if is_on(keys, key) {
+    if is_listed(keys, key) {
         return true;
     }
-    !is_met(met, key)
+    !is_listed(met, key)
 }
 
 // Whether each of the keys that was met is on the other list, too.

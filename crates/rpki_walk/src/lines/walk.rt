@@ -8,7 +8,7 @@ ghost use Rattle.rpki_walk.specs.Facts.{Classified};
 ghost use Rattle.rpki_walk.specs.Remembered.{IsRemembered, Remembers};
 ghost use Rattle.rpki_walk.specs.Walked.{Continues, MeetsFile, WalksLines};
 
-use crate::chains::{Outcome, is_on, with_first};
+use crate::chains::{Outcome, with_first};
 use crate::lines::found::LinesFound;
 use crate::lines::remembered::Remembered;
 use crate::reach::naming::Naming;
@@ -16,6 +16,7 @@ use crate::repository::{FileKind, Repository};
 use bytes::Bytes;
 use resources::set::ResourceSet;
 use rpki_rules::Cause;
+use rpki_rules::listed::is_listed;
 use std::alloc::{AllocError, Global};
 
 /// What a walk for lines has found and remembers.
@@ -36,6 +37,22 @@ fn copy_of(alloc: Global, list: &[Bytes]) -> Result<Vec<Bytes>, AllocError>
         all.push(one.clone()?)?;
     }
     Ok(all)
+}
+
+// The certificate's key, which is added to those that were met.
+fn meet<S: Repository>(
+    alloc: Global,
+    repository: &S,
+    met: &mut Vec<Bytes>,
+    child: &S::Authority,
+) -> Result<Bytes, AllocError>
+    ensures key { IfOk result (λ key. key ≡ (S.cert child.now).tbs.subject_key_identifier) }
+    ensures added { OnOk result (met.new.items
+        ≡ met.old.items ++ (S.cert child.now).tbs.subject_key_identifier ∷ []) }
+{
+    let key = repository.key_identifier(alloc, child)?;
+    met.push(key.clone()?)?;
+    Ok(key)
 }
 
 impl LinesWalk {
@@ -93,57 +110,44 @@ impl LinesWalk {
         let own = copy_of(alloc, keys)?;
         self.before.push(uri, held, own, from, to)
     }
-}
 
-// The certificate's key, which is added to those that were met.
-fn meet<S: Repository>(
-    alloc: Global,
-    repository: &S,
-    met: &mut Vec<Bytes>,
-    child: &S::Authority,
-) -> Result<Bytes, AllocError>
-    ensures key { IfOk result (λ key. key ≡ (S.cert child.now).tbs.subject_key_identifier) }
-    ensures added { OnOk result (met.new.items
-        ≡ met.old.items ++ (S.cert child.now).tbs.subject_key_identifier ∷ []) }
-{
-    let key = repository.key_identifier(alloc, child)?;
-    met.push(key.clone()?)?;
-    Ok(key)
-}
-
-// What is to be done with a file, the chain's keys and depth looked at; the key of a certificate is added to those that
-// were met.
-fn classify_met<S: Repository>(
-    alloc: Global,
-    repository: &mut S,
-    ca: &S::Authority,
-    p: &S::Point,
-    keys: &[Bytes],
-    met: &mut Vec<Bytes>,
-    uri: &[u8],
-) -> Result<Outcome<S::Authority, S::Payload>, AllocError>
-    requires { Mem (files (S.cert ca.now) (S.point p.now).manifest) uri.now }
-    ensures class { IfOk result (Classified S.cert S.sets S.payload (S.world repository.old)
-        (InSet (S.sets ca.now)) (S.cert ca.now) (S.point p.now) keys.now uri.now) }
-    ensures keyed { OnOk result (MeetsFile (S.world repository.old) (InSet (S.sets ca.now))
-        (S.cert ca.now) (S.point p.now) uri.now (drop (length met.old.items) met.new.items)) }
-    ensures grown { OnOk result (Continues met.old.items met.new.items) }
-    ensures same { S.world repository.new ≡ S.world repository.old }
-    ensures lender { S.lender repository.new ≡ S.lender repository.old }
-{
-    match repository.read_file(alloc, ca, p, uri)? {
-        FileKind::Nothing => Ok(Outcome::Nothing),
-        FileKind::Bad => Ok(Outcome::Refused(Cause::Object)),
-        FileKind::Attests(payload) => Ok(Outcome::Attests(payload)),
-        FileKind::Child(child) => {
-            let key = meet(alloc, repository, met, &child)?;
-            if is_on(keys, key.as_slice()) {
-                return Ok(Outcome::Refused(Cause::Loop));
+    // What is to be done with a file, the chain's keys and depth looked at; the key of a certificate is added to those that
+    // were met.
+    fn classify_met<S: Repository>(
+        &mut self,
+        alloc: Global,
+        repository: &mut S,
+        ca: &S::Authority,
+        p: &S::Point,
+        keys: &[Bytes],
+        uri: &[u8],
+    ) -> Result<Outcome<S::Authority, S::Payload>, AllocError>
+        requires { Mem (files (S.cert ca.now) (S.point p.now).manifest) uri.now }
+        ensures class { IfOk result (Classified S.cert S.sets S.payload (S.world repository.old)
+            (InSet (S.sets ca.now)) (S.cert ca.now) (S.point p.now) keys.now uri.now) }
+        ensures keyed { OnOk result (MeetsFile (S.world repository.old) (InSet (S.sets ca.now))
+            (S.cert ca.now) (S.point p.now) uri.now
+            (drop (length self.old.met.items) self.new.met.items)) }
+        ensures grown { OnOk result (Continues self.old.met.items self.new.met.items) }
+        ensures lines { self.new.lines ≡ self.old.lines }
+        ensures before { self.new.before ≡ self.old.before }
+        ensures same { S.world repository.new ≡ S.world repository.old }
+        ensures lender { S.lender repository.new ≡ S.lender repository.old }
+    {
+        match repository.read_file(alloc, ca, p, uri)? {
+            FileKind::Nothing => Ok(Outcome::Nothing),
+            FileKind::Bad => Ok(Outcome::Refused(Cause::Object)),
+            FileKind::Attests(payload) => Ok(Outcome::Attests(payload)),
+            FileKind::Child(child) => {
+                let key = meet(alloc, repository, &mut self.met, &child)?;
+                if is_listed(keys, key.as_slice()) {
+                    return Ok(Outcome::Refused(Cause::Loop));
+                }
+                if keys.len() >= repository.depth() {
+                    return Ok(Outcome::Refused(Cause::Depth));
+                }
+                Ok(Outcome::Child(child, key))
             }
-            if keys.len() >= repository.depth() {
-                return Ok(Outcome::Refused(Cause::Depth));
-            }
-            Ok(Outcome::Child(child, key))
         }
     }
 }
@@ -174,8 +178,7 @@ pub(crate) fn lines_from<S: Naming>(
         return Ok(from);
     };
     for file in repository.uris(ca, &point) {
-        let met = &mut walk.met;
-        match classify_met(alloc, repository, ca, &point, keys, met, file.as_slice())? {
+        match walk.classify_met(alloc, repository, ca, &point, keys, file.as_slice())? {
             Outcome::Nothing => {}
             Outcome::Refused(cause) => walk.lines.refuse(file, cause)?,
             Outcome::Attests(payload) => walk.lines.show(repository, &payload)?,

@@ -6,7 +6,7 @@ ghost use Rattle.rpki_rules.specs.Views.{path_of};
 
 use crate::reach::keys::{Wanted, names_any};
 use crate::reach::naming::Naming;
-use crate::{Cause, Path, Visitor, sort_once, walk_all};
+use crate::{Cause, Chain, Path, Visitor, sort_once, walk_all};
 use bytes::Bytes;
 use std::alloc::{AllocError, Global};
 use std::rc::Rc;
@@ -29,14 +29,12 @@ impl<'a, S: Naming> Visitor<S> for Namer<'a> {
         &mut self,
         alloc: Global,
         repository: &mut S,
-        path: &Rc<Path>,
-        _keys: &[Bytes],
-        _uri: &Bytes,
+        chain: &Chain<'_>,
         ca: &S::Authority,
     ) -> Result<(), AllocError> {
         let keys = repository.named_keys(alloc, ca)?;
         if names_any(self.wanted, &keys) {
-            self.paths.push(path.clone()?)?;
+            self.paths.push(chain.path.clone()?)?;
         }
         Ok(())
     }

@@ -4,7 +4,7 @@ ghost use Rattle.rpki_walk.specs.Gathered.{has_gathered, IsReaches};
 
 use crate::reach::keys::{Wanted, names_any};
 use crate::reach::naming::Naming;
-use crate::{Cause, Path, Visitor};
+use crate::{Cause, Chain, Path, Visitor};
 use bytes::Bytes;
 use resources::set::ResourceSet;
 use std::alloc::{AllocError, Global};
@@ -28,9 +28,7 @@ impl<'a, S: Naming> Visitor<S> for Gatherer<'a> {
         &mut self,
         alloc: Global,
         repository: &mut S,
-        _path: &Rc<Path>,
-        _keys: &[Bytes],
-        _uri: &Bytes,
+        _chain: &Chain<'_>,
         ca: &S::Authority,
     ) -> Result<(), AllocError> {
         let keys = repository.named_keys(alloc, ca)?;

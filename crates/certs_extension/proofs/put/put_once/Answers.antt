@@ -2,7 +2,7 @@ use Rattle.std.proofs.Common.{ℕ, List, Err, rules, subst}
 use Rattle.certs_extension.specs.bcder_tree.declared.mode.Mode.TheVariants.{Der}
 use Rattle.certs_extension.specs.bcder_source.declared.error.DecodeError.TheVariants.{Content}
 use Rattle.certs_extension.specs.bcder_content.Captures.{rest_of}
-use Rattle.certs_extension.specs.bcder_content.Ran.{Decoded, fresh}
+use Rattle.certs_extension.specs.bcder_content.ClosureReads.{Decoded, fresh}
 use Rattle.certs_extension.proofs.put.put_once.Goals as goal
 
 pub returns-in-Err-Content-clause-refused : goal.returns-in-Err-Content-clause-refused

@@ -1,4 +1,3 @@
-use Rattle.certs_name.proofs.Wholes.{lacks_any}
 use Rattle.certs_name.specs.bcder_primitive.Plain.{plain}
 use Rattle.certs_name.proofs.of_bcder_primitive.Primitives.{through, weaker}
 use Rattle.certs_name.proofs.whole.take_told.Goals as goal
@@ -6,4 +5,4 @@ use Rattle.certs_name.proofs.whole.take_told.Goals as goal
 pub returns-in_err-count-clause-reads : goal.returns-in_err-count-clause-reads
 returns-in_err-count-clause-reads g c =
     through (λ (x : g.row.T.Denot). x) g.T.Told.tells (plain g.S.Source.rest c.args.prim.now) _ c.from_residual.result c.in_err-count.field-0.0 c.from_residual.ensures.0 c.from_residual.ensures.1
-    (weaker c.in_err-count.field-0.0 (lacks_any g.T.Told.tells (plain g.S.Source.rest c.args.prim.now)) c.in_err-count.ensures.refused)
+    (weaker c.in_err-count.field-0.0 (λ none. record { none = λ text x is w. none text w }) c.in_err-count.ensures.refused)

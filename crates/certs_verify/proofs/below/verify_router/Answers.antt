@@ -1,32 +1,20 @@
 use Rattle.std.proofs.Common.{[], ◌∷◌, ◌++◌}
-use Rattle.certs_verify.specs.certs_extension.Verified.{IsSignedAt, PassesAt, held_by, nothing, validity, issuer_claim}
+use Rattle.certs_verify.specs.certs_extension.Verified.{IsSignedAt, PassesAt, held_by, validity, issuer_claim}
 use Rattle.certs_verify.specs.certs_extension.declared.forms.VerificationTest.TheVariants as test
-use Rattle.certs_verify.specs.Answers.{fault_of}
-use Rattle.certs_verify.proofs.Chains.{each_alike, each_next, fault_alike, handed_on}
+use Rattle.certs_verify.proofs.Chains.{each_next, handed_on}
 use Rattle.certs_verify.proofs.Memories.{memory_where, other_handed_on, signed_below}
-use Rattle.certs_verify.proofs.Refusals.{outside_handed_on, signed_alike, tells_none}
+use Rattle.certs_verify.proofs.Refusals.{below_passed, below_refused, below_untold, outside_handed_on}
 use Rattle.certs_verify.proofs.below.verify_router.Goals as goal
 
 pub returns-in_err-signed-clause-answers : goal.returns-in_err-signed-clause-answers
 returns-in_err-signed-clause-answers g c =
-    let good = g.V.Verifier.says c.args.verifier.now in
-    let issuer = c.args.issuer.now.holder in
-    let P = PassesAt good c.args.now c.as_cert.result.now nothing c.args.cert.now in
-    let Q = PassesAt good c.args.now issuer.cert (held_by issuer) c.args.cert.now in
-    let tests = validity ++ issuer_claim ++ test.BadSignature ∷ [] in
-    let same = signed_alike good c.args.now c.as_cert.result.now issuer.cert c.args.cert.now (held_by issuer) c.as_cert.ensures in
-    handed_on Q [] tests (test.OverclaimAs ∷ [])
-    c.in_err-signed.field-0.0 _ c.from_residual.ensures tt
-    (fault_alike P Q tests (fault_of c.in_err-signed.field-0.0) same c.in_err-signed.ensures.answers)
+    below_refused (g.V.Verifier.says c.args.verifier.now) c.args.now c.as_cert.result.now c.args.issuer.now.holder c.args.cert.now (test.OverclaimAs ∷ [])
+    c.in_err-signed.field-0.0 _ c.as_cert.ensures c.from_residual.ensures c.in_err-signed.ensures.answers
 
 pub returns-in_err-signed-clause-outside : goal.returns-in_err-signed-clause-outside
 returns-in_err-signed-clause-outside g c =
-    let good = g.V.Verifier.says c.args.verifier.now in
-    let issuer = c.args.issuer.now.holder in
-    let P = PassesAt good c.args.now c.as_cert.result.now nothing c.args.cert.now in
-    let tests = validity ++ issuer_claim ++ test.BadSignature ∷ [] in
-    outside_handed_on c.args.cert.now (held_by issuer) c.in_err-signed.field-0.0 _ c.from_residual.ensures
-    (tells_none P tests c.args.cert.now (held_by issuer) c.in_err-signed.field-0.0 (tt, (tt, (tt, (tt, (tt, (tt, tt)))))) c.in_err-signed.ensures.answers)
+    below_untold (g.V.Verifier.says c.args.verifier.now) c.args.now c.as_cert.result.now c.args.issuer.now.holder c.args.cert.now
+    c.in_err-signed.field-0.0 _ c.from_residual.ensures c.in_err-signed.ensures.answers
 
 pub returns-in_err-signed-clause-memory : goal.returns-in_err-signed-clause-memory
 returns-in_err-signed-clause-memory g c =
@@ -44,13 +32,9 @@ pub returns-in_err-held-clause-answers : goal.returns-in_err-held-clause-answers
 returns-in_err-held-clause-answers g c =
     let good = g.V.Verifier.says c.args.verifier.now in
     let issuer = c.args.issuer.now.holder in
-    let P = PassesAt good c.args.now c.as_cert.result.now nothing c.args.cert.now in
-    let Q = PassesAt good c.args.now issuer.cert (held_by issuer) c.args.cert.now in
-    let tests = validity ++ issuer_claim ++ test.BadSignature ∷ [] in
-    let same = signed_alike good c.args.now c.as_cert.result.now issuer.cert c.args.cert.now (held_by issuer) c.as_cert.ensures in
-    handed_on Q tests (test.OverclaimAs ∷ []) []
-    c.in_err-held.field-0.0 _ c.from_residual-in_err-held.ensures (each_alike P Q tests same c.in_ok-signed.ensures.answers)
-    (c.in_err-held.ensures.answers good c.args.now)
+    handed_on (PassesAt good c.args.now issuer.cert (held_by issuer) c.args.cert.now) (validity ++ issuer_claim ++ test.BadSignature ∷ []) (test.OverclaimAs ∷ []) []
+    c.in_err-held.field-0.0 _ c.from_residual-in_err-held.ensures
+    (below_passed good c.args.now c.as_cert.result.now issuer c.args.cert.now c.as_cert.ensures c.in_ok-signed.ensures.answers) (c.in_err-held.ensures.answers good c.args.now)
 
 pub returns-in_err-held-clause-outside : goal.returns-in_err-held-clause-outside
 returns-in_err-held-clause-outside g c =
@@ -60,8 +44,5 @@ pub returns-clause-answers : goal.returns-clause-answers
 returns-clause-answers g c =
     let good = g.V.Verifier.says c.args.verifier.now in
     let issuer = c.args.issuer.now.holder in
-    let P = PassesAt good c.args.now c.as_cert.result.now nothing c.args.cert.now in
-    let Q = PassesAt good c.args.now issuer.cert (held_by issuer) c.args.cert.now in
-    let tests = validity ++ issuer_claim ++ test.BadSignature ∷ [] in
-    let same = signed_alike good c.args.now c.as_cert.result.now issuer.cert c.args.cert.now (held_by issuer) c.as_cert.ensures in
-    each_next Q tests (test.OverclaimAs ∷ []) (each_alike P Q tests same c.in_ok-signed.ensures.answers) (c.in_ok-held.ensures.answers good c.args.now)
+    each_next (PassesAt good c.args.now issuer.cert (held_by issuer) c.args.cert.now) (validity ++ issuer_claim ++ test.BadSignature ∷ []) (test.OverclaimAs ∷ [])
+    (below_passed good c.args.now c.as_cert.result.now issuer c.args.cert.now c.as_cert.ensures c.in_ok-signed.ensures.answers) (c.in_ok-held.ensures.answers good c.args.now)

@@ -7,7 +7,7 @@ use Rattle.objects_rta_anchors.proofs.below.mark_issuer.Given as goal
 
 abbrev pub invariant-loop-signer : goal.invariant-loop-signer
 invariant-loop-signer g l = record {
-  marked : MarkedBelow (IsOpenAt (IsBelow (g.V.Verifier.says l.fn.verifier) l.fn.ca.holder.cert) l.fn.certs l.fn.ends l.fn.anchors.items) (Issuer l.fn.number) l.signer l.fn.anchors.items l.anchors.items;
+  marked : MarkedBelow (IsOpenAt (IsBelow (g.V.Verifier.says l.fn.verifier) l.fn.supplied.ca.now.holder.cert) l.fn.ends.certs.now l.fn.ends.places.now l.fn.anchors.items) (Issuer l.fn.supplied.number) l.signer l.fn.anchors.items l.anchors.items;
   same : g.V.Verifier.says l.verifier ≡ g.V.Verifier.says l.fn.verifier;
   asked : g.V.Verifier.count l.verifier + l.fn.first + 1 ≤ g.V.Verifier.count l.fn.verifier + l.signer;
 }

@@ -1,6 +1,6 @@
 use Rattle.objects_rta_valid.specs.certs_extension.Cert.{CertValue}
 use Rattle.objects_rta_anchors.specs.Anchors.{IsBelow}
-use Rattle.objects_rta_anchors.proofs.Standing.{none_stands, not_told, stands_told}
+use Rattle.objects_rta_valid.proofs.Standing.{none_stands, not_told, stands_told}
 use Rattle.objects_rta_anchors.proofs.below.stands_below.Goals as goal
 
 pub returns-in-Some-clause-below : goal.returns-in-Some-clause-below

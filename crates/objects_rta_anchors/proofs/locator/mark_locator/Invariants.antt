@@ -6,6 +6,6 @@ use Rattle.objects_rta_anchors.proofs.locator.mark_locator.Given as goal
 
 abbrev pub invariant-loop-signer : goal.invariant-loop-signer
 invariant-loop-signer l = record {
-  found : FoundBelow (IsOpenAt (IsAtLocator l.fn.tal.key) l.fn.certs l.fn.ends l.fn.anchors.items) l.signer l.found;
-  marked : MarkedBelow (IsOpenAt (IsAtLocator l.fn.tal.key) l.fn.certs l.fn.ends l.fn.anchors.items) Locator l.signer l.fn.anchors.items l.anchors.items;
+  found : FoundBelow (IsOpenAt (IsAtLocator l.fn.tal.key) l.fn.ends.certs.now l.fn.ends.places.now l.fn.anchors.items) l.signer l.found;
+  marked : MarkedBelow (IsOpenAt (IsAtLocator l.fn.tal.key) l.fn.ends.certs.now l.fn.ends.places.now l.fn.anchors.items) Locator l.signer l.fn.anchors.items l.anchors.items;
 }

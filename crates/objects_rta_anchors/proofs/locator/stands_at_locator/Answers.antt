@@ -1,5 +1,5 @@
 use Rattle.objects_rta_anchors.specs.Anchors.{IsAtLocator}
-use Rattle.objects_rta_anchors.proofs.Standing.{none_stands, not_told, stands_told}
+use Rattle.objects_rta_valid.proofs.Standing.{none_stands, not_told, stands_told}
 use Rattle.objects_rta_anchors.proofs.locator.stands_at_locator.Goals as goal
 
 pub returns-in-Some : goal.returns-in-Some

@@ -1,4 +1,4 @@
-use Rattle.std.proofs.Common.{subst, sym, ◌∙◌}
+use Rattle.std.proofs.Common.{subst, sym}
 use Rattle.objects_rta_valid.specs.Places.{pairs}
 use Rattle.objects_rta_valid.specs.Vouched.{AreGoodOf}
 use Rattle.objects_rta_valid.proofs.Following.{apart_carried, apart_told, begins_walked, functional_walked}

@@ -1,4 +1,4 @@
-use Rattle.std.proofs.Common.{Some, None, sym, ◌∙◌, ◌≡◌, ℕ, List, Option}
+use Rattle.std.proofs.Common.{Some, None, sym, ◌∙◌, ◌≡◌, ℕ, Option}
 use Rattle.objects_rta_valid.specs.Keyed.{last_place}
 use Rattle.objects_rta_valid.specs.Vouched.{authority_of}
 use Rattle.objects_rta_valid.proofs.Standing.{always_told, not_told}

@@ -1,4 +1,4 @@
-use Rattle.std.proofs.Common.{◌≡◌, ◌<◌, ℕ, List, Option, None, Some, map, sym, subst, ◌∙◌}
+use Rattle.std.proofs.Common.{◌<◌, ℕ, Option, None, Some, map, sym, subst}
 use Rattle.certs_verify.specs.certs_extension.CrlText.{CrlValue}
 use Rattle.objects_rta_valid.specs.Keyed.{KeyAt}
 use Rattle.objects_rta_valid.specs.Vouched.{Serves, authority_of, subject_of}

@@ -1,4 +1,4 @@
-use Rattle.std.proofs.Common.{◌≡◌, ◌<◌, ℕ, List, Option, Some, length, set, sym, subst, arith}
+use Rattle.std.proofs.Common.{◌<◌, ℕ, Some, length, sym, subst, arith}
 use Rattle.std.proofs.Math.ListN.{length-set}
 use Rattle.objects_rta_valid.specs.Places.{linked, pairs_of}
 use Rattle.objects_rta_valid.proofs.Tables.{begin_more, begins, linked_more}

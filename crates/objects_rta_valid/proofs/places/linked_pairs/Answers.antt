@@ -1,6 +1,6 @@
-use Rattle.std.proofs.Common.{◌≡◌, ℕ, ◌+◌, ◌<◌, List, [], ◌++◌, Option, None, get_or, length, sym, subst, arith}
+use Rattle.std.proofs.Common.{ℕ, ◌+◌, List, None, get_or, sym, subst, arith}
 use Rattle.std.proofs.lemmas.Option.{slice_get-get_or}
-use Rattle.objects_rta_valid.specs.Places.{ArePairsTo, link_pair}
+use Rattle.objects_rta_valid.specs.Places.{ArePairsTo}
 use Rattle.objects_rta_valid.proofs.Tables.{pairs_all, pairs_more, pairs_none}
 use Rattle.objects_rta_valid.proofs.places.linked_pairs.Goals as goal
 

@@ -1,4 +1,4 @@
-use Rattle.std.proofs.Common.{◌≡◌, ◌≤◌, ◌∙◌, ap, List, Option, ℕ, length, arith}
+use Rattle.std.proofs.Common.{◌∙◌, ap, List, Option, ℕ, length, arith}
 use Rattle.objects_rta_valid.specs.Places.{pairs, pairs_of}
 use Rattle.objects_rta_valid.proofs.Tables.{length_linked, linked_done, linked_step, links_from, path_begins}
 use Rattle.objects_rta_valid.proofs.places.links.Goals as goal

@@ -17,18 +17,18 @@ Answer = Result (ResourceCertValue × List ℕ) ValidationError
 
 pub returns-in-Err-clause-validates : goal.returns-in-Err-clause-validates
 returns-in-Err-clause-validates g c role i =
-    inl (c.in-Err.ensures.verifies c.args.strict role i)
+    inl (c.in-Err.ensures.verifies c.args.terms.now.strict role i)
 
 pub returns-in-Ok-clause-validates : goal.returns-in-Ok-clause-validates
 returns-in-Ok-clause-validates g c role i =
-    let d = digests_of g.D.Digester.sha256_digest g.D.Digester.sha1_digest c.args.digester.now in
-    let v = g.V.Verifier.says c.args.verifier.now in
+    let d = digests_of g.D.Digester.sha256_digest g.D.Digester.sha1_digest c.args.terms.now.digester.now in
+    let v = g.V.Verifier.says c.args.terms.now.verifier.now in
     let o = c.args.signed in
     let issuer = c.args.issuer.now.holder in
-    let signed = c.in-Ok.ensures.verifies c.args.strict role i in
-    let below = behind d v _ c.args.strict role c.args.now issuer o c.split-cert.result.0 c.verify_below-validated.result c.in-Ok.ensures.same c.split-cert.ensures.cert signed c.verify_below-validated.ensures.verifies in
-    subst (ValidatesContent d v c.args.strict role c.args.now issuer o o.content) (sym c.join.ensures)
-    (with_content d v c.args.strict role c.args.now issuer o o.content c.split-cert.result.1 c.verify_below-validated.result c.split-cert.ensures.content below)
+    let signed = c.in-Ok.ensures.verifies c.args.terms.now.strict role i in
+    let below = behind d v _ c.args.terms.now.strict role c.args.terms.now.moment issuer o c.split-cert.result.0 c.verify_below-validated.result c.in-Ok.ensures.same c.split-cert.ensures.cert signed c.verify_below-validated.ensures.verifies in
+    subst (ValidatesContent d v c.args.terms.now.strict role c.args.terms.now.moment issuer o o.content) (sym c.join.ensures)
+    (with_content d v c.args.terms.now.strict role c.args.terms.now.moment issuer o o.content c.split-cert.result.1 c.verify_below-validated.result c.split-cert.ensures.content below)
 
 pub returns-in-Ok-clause-tal : goal.returns-in-Ok-clause-tal
 returns-in-Ok-clause-tal g c =
@@ -50,8 +50,8 @@ returns-in-Err-clause-memory g c m = inl (c.in-Err.ensures.spared m)
 
 pub returns-in-Ok-clause-memory : goal.returns-in-Ok-clause-memory
 returns-in-Ok-clause-memory g c =
-    let v = g.V.Verifier.says c.args.verifier.now in
+    let v = g.V.Verifier.says c.args.terms.now.verifier.now in
     let o = c.args.signed in
     let r = c.verify_below-validated.result in
     spared_joined _ c.split-cert.result.1 r _ c.join.ensures
-    (spared_below _ _ v _ c.args.now c.args.issuer.now.holder o.cert c.split-cert.result.0 r c.in-Ok.ensures.same c.split-cert.ensures.cert c.verify_below-validated.ensures.verifies)
+    (spared_below _ _ v _ c.args.terms.now.moment c.args.issuer.now.holder o.cert c.split-cert.result.0 r c.in-Ok.ensures.same c.split-cert.ensures.cert c.verify_below-validated.ensures.verifies)

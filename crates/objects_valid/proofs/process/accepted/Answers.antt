@@ -13,13 +13,13 @@ use Rattle.objects_valid.proofs.process.accepted.Goals as goal
 
 pub returns-clause-validates : goal.returns-clause-validates
 returns-clause-validates g c =
-    let d = digests_of g.D.Digester.sha256_digest g.D.Digester.sha1_digest c.args.digester.now in
-    let v = g.V.Verifier.says c.args.verifier.now in
+    let d = digests_of g.D.Digester.sha256_digest g.D.Digester.sha1_digest c.args.terms.now.digester.now in
+    let v = g.V.Verifier.says c.args.terms.now.verifier.now in
     let o = c.args.signed in
     let role = g.T.Attested.role in
-    let form = subst (λ (x : CertValue). Inspects d c.args.strict role x c.inspect-form.result) c.cert.ensures c.inspect-form.ensures in
-    subst (ValidatesObject d v c.args.strict role c.args.now c.args.issuer.now.holder o) (sym c.part.ensures)
-    (without_content d v c.args.strict role c.args.now c.args.issuer.now.holder o o.content c.validate-validated.result (c.validate-validated.ensures.validates role form))
+    let form = subst (λ (x : CertValue). Inspects d c.args.terms.now.strict role x c.inspect-form.result) c.cert.ensures c.inspect-form.ensures in
+    subst (ValidatesObject d v c.args.terms.now.strict role c.args.terms.now.moment c.args.issuer.now.holder o) (sym c.part.ensures)
+    (without_content d v c.args.terms.now.strict role c.args.terms.now.moment c.args.issuer.now.holder o o.content c.validate-validated.result (c.validate-validated.ensures.validates role form))
 
 pub returns-clause-tal : goal.returns-clause-tal
 returns-clause-tal g c =

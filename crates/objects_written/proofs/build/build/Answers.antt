@@ -15,21 +15,21 @@ returns-in-Ok-clause-refused g c =
     let made = c.in-Ok.ensures in
     let s = c.in-Ok.signed in
     let d : Digests = digests_of g.D.Digester.sha256_digest g.D.Digester.sha1_digest c.args.digester.now in
-    let kind = c.args.content_type.now in
-    let content = c.args.content.now in
-    let issuer = c.args.issuer_public.now in
-    let once = g.S.Signer.signs_once c.args.signer.now in
+    let kind = c.args.content.now.content_type.now in
+    let content = c.args.content.now.octets.now in
+    let issuer = c.args.issuer.now.public.now in
+    let once = g.S.Signer.signs_once c.args.issuer.now.signer.now in
     let none = CannotWrap d c.args.builder kind content issuer s.key s.attributes s.signature.bits.octets in
     let whole = CannotSign (to_sign kind (d.sha256 content) c.args.builder.signing_time) ⊎ CannotBuild d c.args.builder kind content once issuer in
-    passed (g.S.Signer.refuses c.args.signer.now) (Unit {0}) (CanTell kind) none whole (λ u. (made.attributes.type_text, made.attributes.type_is))
+    passed (g.S.Signer.refuses c.args.issuer.now.signer.now) (Unit {0}) (CanTell kind) none whole (λ u. (made.attributes.type_text, made.attributes.type_is))
     (λ x. inr (record { key = s.key; attributes = s.attributes; attributes_are = subst (λ (n : ℕ). WritesAttributes (to_sign kind (d.sha256 content) n) s.attributes.octets) c.signing_time-time.ensures made.attributes; signature = s.signature.bits.octets; signs = made.signed; none = x }))
     c.with_cert.result c.with_cert.ensures.refused
 
 pub returns-in-Err-clause-refused : goal.returns-in-Err-clause-refused
 returns-in-Err-clause-refused g c =
     let d : Digests = digests_of g.D.Digester.sha256_digest g.D.Digester.sha1_digest c.args.digester.now in
-    let kind = c.args.content_type.now in
-    let content = c.args.content.now in
+    let kind = c.args.content.now.content_type.now in
+    let content = c.args.content.now.octets.now in
     let cannot = λ (n : ℕ). CannotSign (to_sign kind (d.sha256 content) n) in
-    let build = CannotBuild d c.args.builder kind content (g.S.Signer.signs_once c.args.signer.now) c.args.issuer_public.now in
-    weaker (g.S.Signer.refuses c.args.signer.now) (CanTell kind) (CanTell kind) (cannot c.signing_time-time.result) (cannot c.args.builder.signing_time ⊎ build) (λ u. u) (λ x. inl (subst cannot c.signing_time-time.ensures x)) c.in-Err.error c.in-Err.ensures.refused
+    let build = CannotBuild d c.args.builder kind content (g.S.Signer.signs_once c.args.issuer.now.signer.now) c.args.issuer.now.public.now in
+    weaker (g.S.Signer.refuses c.args.issuer.now.signer.now) (CanTell kind) (CanTell kind) (cannot c.signing_time-time.result) (cannot c.args.builder.signing_time ⊎ build) (λ u. u) (λ x. inl (subst cannot c.signing_time-time.ensures x)) c.in-Err.error c.in-Err.ensures.refused

@@ -14,4 +14,4 @@ pub returns-in-Ok-clause-refused : goal.returns-in-Ok-clause-refused
 returns-in-Ok-clause-refused g c = asked (g.S.Signer.refuses c.args.signer.now) _ _ c.sign_one_off.result c.sign_one_off.ensures.told c.sign_one_off.ensures.refused
 
 pub returns-in-Err-clause-refused : goal.returns-in-Err-clause-refused
-returns-in-Err-clause-refused g c = message_refused (g.S.Signer.refuses c.args.signer.now) _ c.args.attributes.now.octets c.in-Err.error c.refused.result c.refused.ensures tt c.in-Err.ensures.refused
+returns-in-Err-clause-refused g c = message_refused (g.S.Signer.refuses c.args.signer.now) _ c.args.attributes.now.octets c.in-Err.error c.unwritten.result c.unwritten.ensures tt c.in-Err.ensures.refused

@@ -6,12 +6,12 @@ use Rattle.objects_written.proofs.Refused.{attributes_refused, weaker}
 use Rattle.objects_written.proofs.build.sign_content.Goals as goal
 
 pub returns-in-Err-clause-refused : goal.returns-in-Err-clause-refused
-returns-in-Err-clause-refused g c = attributes_refused (g.S.Signer.refuses c.args.signer.now) _ _ c.in-Err.error c.refused.result c.refused.ensures c.in-Err.ensures.memory c.in-Err.ensures.refused
+returns-in-Err-clause-refused g c = attributes_refused (g.S.Signer.refuses c.args.signer.now) _ _ c.in-Err.error c.unwritten.result c.unwritten.ensures c.in-Err.ensures.memory c.in-Err.ensures.refused
 
 pub returns-in-Err-sign-clause-refused : goal.returns-in-Err-sign-clause-refused
 returns-in-Err-sign-clause-refused g c =
-    let kind = c.args.content_type.now in
-    let s = to_sign kind (g.D.Digester.sha256_digest c.args.digester.now c.args.content.now) c.args.time in
+    let kind = c.args.content.now.content_type.now in
+    let s = to_sign kind (g.D.Digester.sha256_digest c.args.digester.now c.args.content.now.octets.now) c.args.time in
     let w = c.in-Ok.ensures.written in
     let octets = c.in-Ok.attributes.octets in
     weaker (g.S.Signer.refuses c.args.signer.now) (Unit {0}) (CanTell kind) (Writable (IsMessage octets) → ⊥) (CannotSign s) (λ u. (w.type_text, w.type_is)) (λ n. inr (octets, w, n))

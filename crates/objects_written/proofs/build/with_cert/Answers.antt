@@ -16,7 +16,7 @@ returns-in-Ok-clause-built g c =
 pub returns-in-Ok-clause-signed : goal.returns-in-Ok-clause-signed
 returns-in-Ok-clause-signed g c = λ has once.
     let made = c.in-Ok.ensures in
-    let signs_once = g.S.Signer.signs_once c.args.signer.now in
+    let signs_once = g.S.Signer.signs_once c.args.issuer.now.signer.now in
     let told = subst (λ (o : List ℕ). SignsAttributes signs_once c.args.signed.attributes.octets c.args.signed.key o) (sym c.value-value.ensures) once in
     signed_told _ _ _ _ _ _ _ _ _ c.requires.padded made.fields made.lawful made.message made.algorithm c.requires.attributes _ _ signs_once c.write_object-octets.result has made.signed told c.write_object-octets.ensures.written
 
@@ -24,12 +24,12 @@ pub returns-in-Ok-clause-refused : goal.returns-in-Ok-clause-refused
 returns-in-Ok-clause-refused g c =
     let made = c.in-Ok.ensures in
     let d : Digests = digests_of g.D.Digester.sha256_digest g.D.Digester.sha1_digest c.args.digester.now in
-    let octets = λ (o : List ℕ). CannotEnclose c.args.content_type.now c.args.content.now c.in-Ok.cert c.args.signed.attributes o in
-    let whole = CannotWrap d c.args.builder c.args.content_type.now c.args.content.now c.args.issuer_public.now c.args.signed.key c.args.signed.attributes c.args.signed.signature.bits.octets in
-    enclosing (g.S.Signer.refuses c.args.signer.now) (Unit {0}) (octets c.value-value.result.now) whole (λ x. inr (c.in-Ok.cert, made.fields, subst octets c.value-value.ensures x)) c.write_object-octets.result c.write_object-octets.ensures.refused
+    let octets = λ (o : List ℕ). CannotEnclose c.args.content.now.content_type.now c.args.content.now.octets.now c.in-Ok.cert c.args.signed.attributes o in
+    let whole = CannotWrap d c.args.builder c.args.content.now.content_type.now c.args.content.now.octets.now c.args.issuer.now.public.now c.args.signed.key c.args.signed.attributes c.args.signed.signature.bits.octets in
+    enclosing (g.S.Signer.refuses c.args.issuer.now.signer.now) (Unit {0}) (octets c.value-value.result.now) whole (λ x. inr (c.in-Ok.cert, made.fields, subst octets c.value-value.ensures x)) c.write_object-octets.result c.write_object-octets.ensures.refused
 
 pub returns-in-Err-clause-refused : goal.returns-in-Err-clause-refused
 returns-in-Err-clause-refused g c =
     let d : Digests = digests_of g.D.Digester.sha256_digest g.D.Digester.sha1_digest c.args.digester.now in
-    let whole = CannotWrap d c.args.builder c.args.content_type.now c.args.content.now c.args.issuer_public.now c.args.signed.key c.args.signed.attributes c.args.signed.signature.bits.octets in
-    weaker (g.S.Signer.refuses c.args.signer.now) (Unit {0}) (Unit {0}) (CannotCertify d c.args.builder c.args.issuer_public.now c.args.signed.key) whole (λ u. u) (λ x. inl x) c.in-Err.error c.in-Err.ensures.refused
+    let whole = CannotWrap d c.args.builder c.args.content.now.content_type.now c.args.content.now.octets.now c.args.issuer.now.public.now c.args.signed.key c.args.signed.attributes c.args.signed.signature.bits.octets in
+    weaker (g.S.Signer.refuses c.args.issuer.now.signer.now) (Unit {0}) (Unit {0}) (CannotCertify d c.args.builder c.args.issuer.now.public.now c.args.signed.key) whole (λ u. u) (λ x. inl x) c.in-Err.error c.in-Err.ensures.refused

@@ -5,7 +5,7 @@ use denote.Text.{Utf8}
 use Rattle.resources_asn.specs.Blocks.{as_run}
 use Rattle.resources_asn.specs.BlockTexts.{IsAsBlockText}
 use Rattle.resources_as.proofs.Pushed.{some_pushed}
-use Rattle.resources_as.proofs.of_resources_chain.ListTexts.{leaves_more, leaves_last}
+use Rattle.resources_as.proofs.of_resources_chain.ListTexts.{fault_next, fault_last, leaves_more, leaves_last}
 use Rattle.resources_as.proofs.text.read_blocks.Goals as goal
 
 pub loop-piece-init : goal.loop-piece-init
@@ -21,15 +21,7 @@ loop-piece-preserved c =
 pub returns-in_err-block-clause-refused : goal.returns-in_err-block-clause-refused
 returns-in_err-block-clause-refused c =
     let p = err_from_is_err_and c.from_residual.result c.from_residual.ensures.1 in
-    rw (p.1, p.2)
-    (inr (record {
-      runs = c.loop-piece.blocks;
-      rest = c.loop-piece.rest.now;
-      piece = c.in-Some.piece.now;
-      leaves = c.loop-piece.invariant.1;
-      first = inr (c.in-Some.behind.now, c.in-Some.ensures);
-      faulty = c.in_err-block.ensures;
-    }))
+    rw (p.1, p.2) (inr (fault_next IsAsBlockText c.args.text.now c.loop-piece.blocks c.loop-piece.rest.now c.in-Some.piece.now c.in-Some.behind.now c.loop-piece.invariant.1 c.in-Some.ensures c.in_err-block.ensures))
 
 pub returns-in_err-push-clause-refused : goal.returns-in_err-push-clause-refused
 returns-in_err-push-clause-refused c =
@@ -38,15 +30,7 @@ returns-in_err-push-clause-refused c =
 pub returns-in_err-block-2-clause-refused : goal.returns-in_err-block-2-clause-refused
 returns-in_err-block-2-clause-refused c =
     let p = err_from_is_err_and c.from_residual-in_err-block-2.result c.from_residual-in_err-block-2.ensures.1 in
-    rw (p.1, p.2)
-    (inr (record {
-      runs = c.loop-piece.blocks;
-      rest = c.loop-piece.rest.now;
-      piece = c.loop-piece.rest.now;
-      leaves = c.loop-piece.invariant.1;
-      first = inl (c.in_default.ensures, refl);
-      faulty = c.in_err-block-2.ensures;
-    }))
+    rw (p.1, p.2) (inr (fault_last IsAsBlockText c.args.text.now c.loop-piece.blocks c.loop-piece.rest.now c.loop-piece.invariant.1 c.in_default.ensures c.in_err-block-2.ensures))
 
 pub returns-in_err-push-2-clause-refused : goal.returns-in_err-push-2-clause-refused
 returns-in_err-push-2-clause-refused c =

@@ -4,7 +4,7 @@ use denote.Shadow.{shadow}
 use denote.Text.{Utf8}
 use Rattle.resources_ip_block.specs.Block.{run_of_block}
 use Rattle.resources_ip_block.specs.ReadTexts.{WritesBlock}
-use Rattle.resources_ip.proofs.of_resources_chain.ListTexts.{leaves_more, leaves_last}
+use Rattle.resources_ip.proofs.of_resources_chain.ListTexts.{fault_next, fault_last, leaves_more, leaves_last}
 use Rattle.resources_ip.proofs.WholeLemmas.{whole_push, some_pushed}
 use Rattle.resources_ip.proofs.listed.read_blocks.Goals as goal
 
@@ -25,15 +25,7 @@ loop-piece-preserved c =
 pub returns-in_err-block-clause-refused : goal.returns-in_err-block-clause-refused
 returns-in_err-block-clause-refused c =
     let p = err_from_is_err_and c.from_residual.result c.from_residual.ensures.1 in
-    rw (p.1, p.2)
-    (inr (record {
-      runs = c.loop-piece.blocks;
-      rest = c.loop-piece.rest.now;
-      piece = c.in-Some.piece.now;
-      leaves = c.loop-piece.invariant.2;
-      first = inr (c.in-Some.behind.now, c.in-Some.ensures);
-      faulty = c.in_err-block.ensures.reads;
-    }))
+    rw (p.1, p.2) (inr (fault_next (WritesBlock c.args.family) c.args.text.now c.loop-piece.blocks c.loop-piece.rest.now c.in-Some.piece.now c.in-Some.behind.now c.loop-piece.invariant.2 c.in-Some.ensures c.in_err-block.ensures.reads))
 
 pub returns-in_err-push-clause-refused : goal.returns-in_err-push-clause-refused
 returns-in_err-push-clause-refused c =
@@ -42,15 +34,7 @@ returns-in_err-push-clause-refused c =
 pub returns-in_err-block-2-clause-refused : goal.returns-in_err-block-2-clause-refused
 returns-in_err-block-2-clause-refused c =
     let p = err_from_is_err_and c.from_residual-in_err-block-2.result c.from_residual-in_err-block-2.ensures.1 in
-    rw (p.1, p.2)
-    (inr (record {
-      runs = c.loop-piece.blocks;
-      rest = c.loop-piece.rest.now;
-      piece = c.loop-piece.rest.now;
-      leaves = c.loop-piece.invariant.2;
-      first = inl (c.in_default.ensures, refl);
-      faulty = c.in_err-block-2.ensures.reads;
-    }))
+    rw (p.1, p.2) (inr (fault_last (WritesBlock c.args.family) c.args.text.now c.loop-piece.blocks c.loop-piece.rest.now c.loop-piece.invariant.2 c.in_default.ensures c.in_err-block-2.ensures.reads))
 
 pub returns-in_err-push-2-clause-refused : goal.returns-in_err-push-2-clause-refused
 returns-in_err-push-2-clause-refused c =

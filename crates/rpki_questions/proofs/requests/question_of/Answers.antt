@@ -1,7 +1,9 @@
-use Rattle.std.proofs.Common.{◌≡◌, ◌∷◌, ℕ, List, String, ap, map, refl, string_bytes, sym, ◌∙◌}
+use Rattle.std.proofs.Common.{◌≡◌, ◌∷◌, ℕ, List, Option, String, ap, map, refl, string_bytes, sym, ◌∙◌}
 use Rattle.std.specs.Global.{Global}
+use Rattle.std.specs.Prelude.{IfNone}
 use Rattle.rpki_validator.proofs.Options.{none_then}
 use Rattle.rpki_questions.proofs.QuestionWords.{asked_behind, none_counted, none_judged, none_of, none_reached, none_refused, none_told}
+use Rattle.rpki_questions.specs.Requests.{Asked, IsAskedBy, IsOf}
 use Rattle.rpki_questions.proofs.requests.question_of.Goals as goal
 
 -- The words by their octets, where the first is that verb.
@@ -10,25 +12,30 @@ behind : (words : List (String Global)) (word : String Global) (others : List (S
 behind words word others text verb e is same =
     ap (map string_bytes) e ∙ ap (λ (w : List ℕ). w ∷ map string_bytes others) (sym is ∙ same)
 
+-- They ask nothing where those behind the verb ask nothing of its kind.
+unasked : {A N : Type 0} (o : Option A) (words : List (String Global)) (word : String Global) (others : List (String Global)) (text verb : List ℕ) → words ≡ word ∷ others → text ≡ string_bytes word → text ≡ verb
+    → IfNone o N → (N → (asked : Asked) → IsOf verb (map string_bytes others) asked → ⊥) → IfNone o ((asked : Asked) → IsAskedBy (map string_bytes words) asked → ⊥)
+unasked o words word others text verb e is same none none_of_kind = none_then o none (λ n. asked_behind _ _ _ (behind words word others text verb e is same) (none_of_kind n))
+
 pub returns-in-judge-clause-none : goal.returns-in-judge-clause-none
-returns-in-judge-clause-none c = none_then c.judge_of.result c.judge_of.ensures.none (λ none.
-    asked_behind _ _ _ (behind _ c.in-Some.verb.now c.in-Some.words.now _ _ c.in-Some.ensures.cases.0 c.as_str.ensures.value c.in-judge.is) (none_judged _ none))
+returns-in-judge-clause-none c =
+    unasked c.judge_of.result _ c.in-Some.verb.now c.in-Some.words.now _ _ c.in-Some.ensures.cases.0 c.as_str.ensures.value c.in-judge.is c.judge_of.ensures.none (none_judged _)
 
 pub returns-in-reach-clause-none : goal.returns-in-reach-clause-none
-returns-in-reach-clause-none c = none_then c.reach_of.result c.reach_of.ensures.none (λ none.
-    asked_behind _ _ _ (behind _ c.in-Some.verb.now c.in-Some.words.now _ _ c.in-Some.ensures.cases.0 c.as_str.ensures.value c.in-reach.is) (none_reached _ none))
+returns-in-reach-clause-none c =
+    unasked c.reach_of.result _ c.in-Some.verb.now c.in-Some.words.now _ _ c.in-Some.ensures.cases.0 c.as_str.ensures.value c.in-reach.is c.reach_of.ensures.none (none_reached _)
 
 pub returns-in-why-clause-none : goal.returns-in-why-clause-none
-returns-in-why-clause-none c = none_then c.why_of.result c.why_of.ensures.none (λ none.
-    asked_behind _ _ _ (behind _ c.in-Some.verb.now c.in-Some.words.now _ _ c.in-Some.ensures.cases.0 c.as_str.ensures.value c.in-why.is) (none_told _ none))
+returns-in-why-clause-none c =
+    unasked c.why_of.result _ c.in-Some.verb.now c.in-Some.words.now _ _ c.in-Some.ensures.cases.0 c.as_str.ensures.value c.in-why.is c.why_of.ensures.none (none_told _)
 
 pub returns-in-refusals-clause-none : goal.returns-in-refusals-clause-none
-returns-in-refusals-clause-none c = none_then c.refusals_of.result c.refusals_of.ensures.none (λ none.
-    asked_behind _ _ _ (behind _ c.in-Some.verb.now c.in-Some.words.now _ _ c.in-Some.ensures.cases.0 c.as_str.ensures.value c.in-refusals.is) (none_refused _ none))
+returns-in-refusals-clause-none c =
+    unasked c.refusals_of.result _ c.in-Some.verb.now c.in-Some.words.now _ _ c.in-Some.ensures.cases.0 c.as_str.ensures.value c.in-refusals.is c.refusals_of.ensures.none (none_refused _)
 
 pub returns-in-cost-clause-none : goal.returns-in-cost-clause-none
-returns-in-cost-clause-none c = none_then c.cost_of.result c.cost_of.ensures.none (λ none.
-    asked_behind _ _ _ (behind _ c.in-Some.verb.now c.in-Some.words.now _ _ c.in-Some.ensures.cases.0 c.as_str.ensures.value c.in-cost.is) (none_counted _ none))
+returns-in-cost-clause-none c =
+    unasked c.cost_of.result _ c.in-Some.verb.now c.in-Some.words.now _ _ c.in-Some.ensures.cases.0 c.as_str.ensures.value c.in-cost.is c.cost_of.ensures.none (none_counted _)
 
 pub returns-in_default-as_str-clause-none : goal.returns-in_default-as_str-clause-none
 returns-in_default-as_str-clause-none c =

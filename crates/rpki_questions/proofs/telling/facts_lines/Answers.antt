@@ -5,5 +5,5 @@ use Rattle.rpki_questions.proofs.telling.facts_lines.Goals as goal
 
 pub returns : goal.returns
 returns c =
-    lines_whole refused_of witness_of (λ p. path_of p.value) c.args.name.now c.args.key.now c.args.report.now c.args.refused.now c.witnesses.result.now c.args.chains.now c.requires c.witnesses.ensures
+    lines_whole refused_of witness_of (λ p. path_of p.value) c.args.found.now.name.now c.args.found.now.key.now c.args.found.now.report.now c.args.found.now.refused.now c.witnesses.result.now c.args.found.now.chains.now c.requires c.witnesses.ensures
     _ _ _ _ c.new-text.ensures.items c.in_ok-push_facts.ensures c.in_ok-push_facts-2.ensures c.in_ok-push_facts-3.ensures

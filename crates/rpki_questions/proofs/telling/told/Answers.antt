@@ -7,7 +7,7 @@ use Rattle.rpki_questions.proofs.telling.told.Goals as goal
 
 pub returns : goal.returns
 returns c =
-    let same = same_facts refused_of (λ p. path_of p.value) _ c.args.name.now c.in_ok-report.report _ c.in_ok-refused.refused.items _ c.in_ok-chains.chains.items c.as_bytes-name.ensures.value c.as_slice-refused.ensures.value c.as_slice-chains.ensures.value in
+    let same = same_facts refused_of (λ p. path_of p.value) _ c.args.name.now c.in_ok-report.report _ c.in_ok-refused.refused.items _ c.in_ok-chains.chains.items c.as_bytes.ensures.value c.as_slice-2.ensures.value c.as_slice-3.ensures.value in
     record {
       refused = map refused_of c.in_ok-refused.refused.items;
       all = c.in_ok-refused.ensures;

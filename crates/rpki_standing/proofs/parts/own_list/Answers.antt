@@ -8,4 +8,4 @@ pub returns-in_default-clause-refused : goal.returns-in_default-clause-refused
 returns-in_default-clause-refused g c d =
     let k = c.args.manifest.now in
     let none : k.signed.cert.tbs.crl_uri ≡ None = cc in
-    first_here (PassesManifest (world_of d (g.V.Verifier.says c.args.verifier.now) c.args.index.now) c.args.ca.now k.signed k.content) ListNamed (ListListed ∷ []) (λ n. n none)
+    first_here (PassesManifest (world_of d (g.V.Verifier.says c.args.reader.now.verifier.now) c.args.reader.now.index) c.args.ca.now k.signed k.content) ListNamed (ListListed ∷ []) (λ n. n none)

@@ -32,7 +32,7 @@ returns-in_default-clause-facts g t c name a cs st acc =
     let held = InSet (g.S.Repository.sets c.args.ca.now) in
     let ca = g.S.Repository.cert c.args.ca.now in
     let n = read_none g.S.Repository.point (g.S.Repository.world c.visit.new.repository) held ca c.in_ok-point.field-0 c.in_default.not-Some c.in_ok-point.ensures.read in
-    none_here g.V.Visitor.wants (g.V.Visitor.uris c.args.visitor.now) w name a cs (path_of c.args.path.now.value) c.args.keys.now c.args.uri.now ca (g.S.Repository.sets c.args.ca.now) st acc
+    none_here g.V.Visitor.wants (g.V.Visitor.uris c.args.visitor.now) w name a cs (path_of c.args.chain.now.path.now.value) c.args.chain.now.keys.now c.args.chain.now.uri.now ca (g.S.Repository.sets c.args.ca.now) st acc
     (λ p s. n p (subst (λ v. StandsIn v held ca p) (sym c.in_ok-visit.ensures.same) s)) _ _ _ c.in_ok-visit.ensures.gained c.in_ok-refuse.ensures.gained
 
 pub classify-requires : goal.classify-requires
@@ -51,7 +51,7 @@ loop-file-preserved g t c =
     let held = InSet (g.S.Repository.sets c.args.ca.now) in
     let ca = g.S.Repository.cert c.args.ca.now in
     let csets = g.S.Repository.sets c.args.ca.now in
-    let path = path_of c.args.path.now.value in let on = c.args.keys.now in let uri = c.args.uri.now in
+    let path = path_of c.args.chain.now.path.now.value in let on = c.args.chain.now.keys.now in let uri = c.args.chain.now.uri.now in
     let inv = c.loop-file.invariant in
     let fs = c.uris-file-items.result.now in let i = c.loop-file.file-index in let d = c.file-item.result in
     let file = get_or fs i d in
@@ -110,7 +110,7 @@ returns-clause-facts g t c name a cs st acc =
     let held = InSet (g.S.Repository.sets c.args.ca.now) in
     let ca = g.S.Repository.cert c.args.ca.now in
     let uris = g.V.Visitor.uris c.args.visitor.now in
-    let path = path_of c.args.path.now.value in let on = c.args.keys.now in let uri = c.args.uri.now in
+    let path = path_of c.args.chain.now.path.now.value in let on = c.args.chain.now.keys.now in let uri = c.args.chain.now.uri.now in
     let p0 = g.S.Repository.point c.in-Some.point in
     let fs = c.uris-file-items.result.now in
     let s : StandsIn w held ca p0 = subst (λ v. StandsIn v held ca p0) c.in_ok-visit.ensures.same (read_some g.S.Repository.point (g.S.Repository.world c.visit.new.repository) held ca c.in_ok-point.field-0 c.in-Some.point c.in-Some.is c.in_ok-point.ensures.read) in
@@ -118,7 +118,7 @@ returns-clause-facts g t c name a cs st acc =
     gains_same g.V.Visitor.wants _ _ _ _ h (λ x.
     subst (λ (xs : List (List ℕ)). (ReachedBy uris w held on path uri ca x ⊎ ((u : List ℕ) × Mem xs u × FromFile uris w name a cs p0 u x)) ↔ Found uris w name a cs x)
     (sym (take_all c.loop-file.file-index fs c.loop-file-test.false ∙ c.uris-file-items.ensures))
-    (all_here g.V.Visitor.wants uris w name a cs path c.args.keys.now c.args.uri.now ca (g.S.Repository.sets c.args.ca.now) st p0 acc s x))
+    (all_here g.V.Visitor.wants uris w name a cs path c.args.chain.now.keys.now c.args.chain.now.uri.now ca (g.S.Repository.sets c.args.ca.now) st p0 acc s x))
 
 pub loop-file-init : goal.loop-file-init
 loop-file-init g t c = record {

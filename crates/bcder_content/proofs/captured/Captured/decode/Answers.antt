@@ -3,7 +3,7 @@ use Rattle.std.specs.Prelude.{IfErr}
 use Rattle.bcder_content.specs.Captures.{rest_of}
 use Rattle.bcder_content.specs.Kept.{CapturedValue}
 use Rattle.bcder_content.specs.Memory.{OnMemory, InErr}
-use Rattle.bcder_content.specs.Ran.{Decoded, fresh}
+use Rattle.bcder_content.specs.ClosureReads.{Decoded, fresh}
 use Rattle.bcder_content.proofs.captured.Captured.decode.Goals as goal
 
 pub returns-clause-decoded : goal.returns-clause-decoded

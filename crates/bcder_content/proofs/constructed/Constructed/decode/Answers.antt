@@ -1,6 +1,6 @@
 use Rattle.std.proofs.Common.{refl}
 use Rattle.bcder_content.specs.Here.{here}
-use Rattle.bcder_content.specs.Ran.{refused_in, failed_in}
+use Rattle.bcder_content.specs.ClosureReads.{refused_in, failed_in}
 use Rattle.bcder_content.proofs.Decoding.{begins}
 use Rattle.bcder_content.proofs.Memories.{wanted}
 use Rattle.bcder_content.proofs.Taking.{on_content}

@@ -1,5 +1,5 @@
 use Rattle.std.proofs.Common.{true}
-use Rattle.bcder_content.specs.Ran.{no_value}
+use Rattle.bcder_content.specs.ClosureReads.{no_value}
 use Rattle.bcder_content.proofs.Taking.{only_on, none_of, untold_comes, untold_none}
 use Rattle.bcder_content.proofs.constructed.Constructed.take_opt_constructed_if.Goals as goal
 

@@ -1,5 +1,5 @@
 use Rattle.std.proofs.Common.{false}
-use Rattle.bcder_content.specs.Ran.{no_octets}
+use Rattle.bcder_content.specs.ClosureReads.{no_octets}
 use Rattle.bcder_content.proofs.Taking.{only_on, none_of, untold_comes, untold_none}
 use Rattle.bcder_content.proofs.constructed.Constructed.take_opt_primitive_if.Goals as goal
 

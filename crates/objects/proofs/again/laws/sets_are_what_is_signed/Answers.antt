@@ -1,5 +1,5 @@
 use Rattle.objects_written.proofs.Sets.{message_is}
-use Rattle.objects.specs.Taking.{in_der}
+use Rattle.objects_written.specs.Taking.{in_der}
 use Rattle.objects.proofs.again.laws.sets_are_what_is_signed.Goals as goal
 
 pub returns : goal.returns

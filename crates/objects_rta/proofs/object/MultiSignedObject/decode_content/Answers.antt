@@ -1,7 +1,7 @@
 use Rattle.std.proofs.Common.{List, ℕ, subst, ◌∙◌}
 use Rattle.objects_cms.specs.bcder_tree.declared.mode.Mode.TheVariants.{Der}
 use Rattle.objects_cms.specs.bcder_content.Captures.{rest_of}
-use Rattle.objects_cms.specs.bcder_content.Ran.{Decoded, fresh}
+use Rattle.objects_cms.specs.bcder_content.ClosureReads.{Decoded, fresh}
 use Rattle.objects_rta.proofs.object.MultiSignedObject.decode_content.Goals as goal
 
 pub returns-in-Ok : goal.returns-in-Ok

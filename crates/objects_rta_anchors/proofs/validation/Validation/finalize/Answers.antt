@@ -4,7 +4,7 @@ use Rattle.objects_rta_valid.specs.certs_extension.Kinds.{Kind}
 use Rattle.objects_rta_anchors.specs.Anchors.{AnchoredValue}
 use Rattle.objects_rta_anchors.specs.Coverage.{IsCovered}
 use Rattle.objects_rta_anchors.proofs.Finishing.{anchored_of, holds_told, open_of}
-use Rattle.objects_rta_anchors.proofs.Standing.{not_told, told_not}
+use Rattle.objects_rta_valid.proofs.Standing.{not_told, told_not}
 use Rattle.objects_rta_anchors.proofs.validation.Validation.finalize.Goals as goal
 
 pub returns-then-not-are_anchored-clause-holds : goal.returns-then-not-are_anchored-clause-holds

@@ -1,7 +1,7 @@
-use Rattle.std.proofs.Common.{IfErr, IfOk, List, ℕ, ap, subst}
+use Rattle.std.proofs.Common.{IfOk, ap, subst}
 use Rattle.objects_written.specs.bcder_tree.declared.mode.Mode.TheVariants.{Der}
-use Rattle.objects_rta_written.specs.Contents.{AttestationRefused, ContentParts, NumbersRefused, attestation, written_parts}
-use Rattle.objects_rta_written.proofs.Writing.{attestation_text, numbers_attested, passed, text_stop}
+use Rattle.objects_rta_written.specs.Contents.{AttestationRefused, ContentParts, attestation, written_parts}
+use Rattle.objects_rta_written.proofs.Writing.{attestation_text, text_stop}
 use Rattle.objects_rta_written.proofs.attestation.ResourceTaggedAttestationEncodeAttestation.to_captured.Goals as goal
 
 pub returns-clause-written : goal.returns-clause-written

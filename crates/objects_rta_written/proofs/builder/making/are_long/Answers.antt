@@ -1,6 +1,6 @@
 use Rattle.std.proofs.Common.{List, subst, sym, ℕ}
 use Rattle.std.specs.Prelude.{All}
-use Rattle.std.proofs.lemmas.List.Elements.{All-cons, All-nil}
+use Rattle.std.proofs.lemmas.List.Elements.{All-cons}
 use Rattle.objects_written.specs.certs_basics.Basics.{IsTwentyLong}
 use Rattle.objects_rta_written.proofs.builder.making.are_long.Goals as goal
 

@@ -1,4 +1,4 @@
-use Rattle.std.proofs.Common.{IfErr, IfOk, List, ℕ, subst}
+use Rattle.std.proofs.Common.{IfErr, IfOk, subst}
 use Rattle.objects_written.specs.bcder_tree.declared.mode.Mode.TheVariants.{Der}
 use Rattle.objects_rta_written.specs.Contents.{ContentParts, written_parts}
 use Rattle.objects_rta_written.specs.Taking.{TextRefused}

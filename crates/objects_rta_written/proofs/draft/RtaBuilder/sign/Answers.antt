@@ -2,7 +2,6 @@ use Rattle.std.proofs.Common.{refl}
 use Rattle.objects_written.specs.certs_key.Digesting.{digests_of}
 use Rattle.objects_rta.specs.objects_cms.Signer.{signer_fields}
 use Rattle.objects_written.specs.objects_payload.ObjectText.{signer_of}
-use Rattle.objects_rta_written.specs.Builders.{CannotAdd, signs}
 use Rattle.objects_rta_written.proofs.Signing.{added_on, memory_refused}
 use Rattle.objects_rta_written.proofs.draft.RtaBuilder.sign.Goals as goal
 

@@ -1,5 +1,5 @@
 use Rattle.std.proofs.Common.{ap, List, ℕ}
-use Rattle.objects_written.specs.Attributes.{ToSign, to_sign}
+use Rattle.objects_written.specs.Attributes.{to_sign}
 use Rattle.objects_rta.specs.Attestations.{tagged_attestation}
 use Rattle.objects_rta_written.proofs.Signing.{attributes_told, tagged_known}
 use Rattle.objects_rta_written.proofs.draft.signing.attributes_of.Goals as goal

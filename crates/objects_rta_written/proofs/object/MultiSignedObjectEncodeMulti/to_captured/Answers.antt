@@ -1,4 +1,4 @@
-use Rattle.std.proofs.Common.{IfErr, IfOk, List, ℕ, ap, subst}
+use Rattle.std.proofs.Common.{IfOk, ap, subst}
 use Rattle.objects_written.specs.bcder_tree.declared.mode.Mode.TheVariants.{Der}
 use Rattle.objects_rta_written.specs.Again.{AgainRefused, WritesAgain}
 use Rattle.objects_rta_written.specs.Frames.{MultiParts, object}

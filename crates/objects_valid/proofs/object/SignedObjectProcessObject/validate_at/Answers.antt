@@ -1,4 +1,4 @@
-use Rattle.std.proofs.Common.{◌≡◌, Result, subst, sym}
+use Rattle.std.proofs.Common.{rules, ◌≡◌, Result, subst, sym}
 use Rattle.std.specs.Prelude.{IfErr, IfOk}
 use Rattle.objects_valid.specs.certs_extension.Verified.{held_by}
 use Rattle.objects_valid.specs.certs_extension.declared.forms.Role.TheVariants.{Ee}
@@ -29,4 +29,6 @@ returns-clause-outside g c =
     subst (λ (r : Result ResourceCertValue ValidationError). IfErr r P) (sym c.part.ensures) (parted_outside P c.accepted-validated.result c.accepted-validated.ensures.outside)
 
 pub returns-clause-memory : goal.returns-clause-memory
-returns-clause-memory g c = spared_parted _ c.accepted-validated.result _ c.part.ensures c.accepted-validated.ensures.memory
+returns-clause-memory g c =
+    let back : c.verifier-1.given.0 ≡ c.accepted-validated.new.terms.verifier.now = search rules in
+    rw back (spared_parted _ c.accepted-validated.result _ c.part.ensures c.accepted-validated.ensures.memory)

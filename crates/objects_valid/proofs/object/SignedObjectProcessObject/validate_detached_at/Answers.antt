@@ -1,4 +1,4 @@
-use Rattle.std.proofs.Common.{◌≡◌, Result, subst, sym}
+use Rattle.std.proofs.Common.{rules, ◌≡◌, Result, subst, sym}
 use Rattle.std.specs.Prelude.{IfErr, IfOk}
 use Rattle.objects_valid.specs.certs_extension.Cert.{CertValue}
 use Rattle.objects_valid.specs.certs_extension.Verified.{held_by}
@@ -31,4 +31,6 @@ returns-clause-outside g c =
     subst (λ (r : Result ResourceCertValue ValidationError). IfErr r P) (sym c.part.ensures) (parted_outside P c.validate-validated.result c.validate-validated.ensures.outside)
 
 pub returns-clause-memory : goal.returns-clause-memory
-returns-clause-memory g c = spared_parted _ c.validate-validated.result _ c.part.ensures c.validate-validated.ensures.memory
+returns-clause-memory g c =
+    let back : c.verifier-1.given.0 ≡ c.validate-validated.new.terms.verifier.now = search rules in
+    rw back (spared_parted _ c.validate-validated.result _ c.part.ensures c.validate-validated.ensures.memory)

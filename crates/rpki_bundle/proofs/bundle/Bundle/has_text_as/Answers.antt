@@ -1,16 +1,15 @@
 use Rattle.std.proofs.Common.{sym, ap, ◌∙◌, subst}
 use Rattle.rpki_bundle.specs.Bundle.{BundleValue, IsSpelled}
-use Rattle.rpki_bundle.specs.Lawful.{IsLawful}
-use Rattle.rpki_bundle.proofs.Texts.{with_lists, same_lists, text_lawful, lawful_as_version, counted_spelled, spelled_counted}
+use Rattle.rpki_bundle.specs.PartFields.{parts_value}
+use Rattle.rpki_bundle.proofs.Texts.{text_lawful, lawful_as_version, counted_spelled, spelled_counted}
 use Rattle.rpki_bundle.proofs.bundle.Bundle.has_text_as.Goals as goal
 
 pub returns : goal.returns
 returns c =
     let v = c.args.version in
-    let parts = same_lists c.as_slice-names.ensures.value c.as_slice-uris.ensures.value c.as_slice-digests.ensures.value in
-    let b = with_lists v c.self.inside.moment c.self.inside.depth c.as_slice-names.result.now c.as_slice-uris.result.now c.as_slice-digests.result.now in
-    let view = parts ∙ ap (λ (x : BundleValue). record x { version = v }) c.self.view_is in
-    let lawful : IsLawful b = subst IsLawful (sym parts) (lawful_as_version v (text_lawful c.self.invariant.1)) in
+    let b = record (parts_value c.self.inside.parts) { version = v } in
+    let view = ap (λ (x : BundleValue). record x { version = v }) c.self.view_is in
+    let lawful = lawful_as_version v (text_lawful c.self.invariant.1) in
     let text = c.generalized-moment.result in
     let m = c.generalized-moment.ensures in (
       λ t. subst IsSpelled view (counted_spelled text b c.members_len.result m lawful c.members_len.ensures.len (sym c.is_ok.ensures.value ∙ t)),

@@ -1,17 +1,17 @@
 use Rattle.std.proofs.Common.{ap}
 use Rattle.std.specs.Prelude.{is_ok}
 use Rattle.rpki_standing.specs.certs_extension.declared.forms.Role.TheVariants.{Ca}
-use Rattle.rpki_standing.specs.certs_key.Digesting.{digests_of}
-use Rattle.rpki_rules.specs.World.{world_of}
+use Rattle.rpki_standing.specs.Readers.{world_by}
+use Rattle.rpki_rules.specs.Reasons.{signature_tests}
 use Rattle.rpki_standing.proofs.TestsTold.{cert_told, form_fails}
 use Rattle.rpki_standing.proofs.signed.issued.check_authority_cert.Goals as goal
 
 pub returns-in-Ok-clause-told : goal.returns-in-Ok-clause-told
 returns-in-Ok-clause-told g c =
-    let w = world_of (digests_of g.D.Digester.sha256_digest g.D.Digester.sha1_digest c.args.digester.now) (g.V.Verifier.says c.args.verifier.now) c.args.index.now in
-    cert_told w Ca c.args.issuer.now c.args.cert.now c.check_signed.result c.map_err.result (c.inspect_ca.ensures.passed.0 (ap is_ok c.in-Ok.is)) c.check_signed.ensures.told c.map_err.ensures.cases
+    let w = world_by g.D.Digester.sha256_digest g.D.Digester.sha1_digest g.V.Verifier.says c.args.reader.now in
+    cert_told w Ca signature_tests c.args.issuer.now c.args.cert.now c.check_signed.result c.map_err.result (c.inspect_ca.ensures.passed.0 (ap is_ok c.in-Ok.is)) c.check_signed.ensures.told c.map_err.ensures.cases
 
 pub returns-in-Err-clause-told : goal.returns-in-Err-clause-told
 returns-in-Err-clause-told g c =
-    let w = world_of (digests_of g.D.Digester.sha256_digest g.D.Digester.sha1_digest c.args.digester.now) (g.V.Verifier.says c.args.verifier.now) c.args.index.now in
-    form_fails w Ca c.args.issuer.now c.args.cert.now c.in-Err.test ((c.inspect_ca.ensures.refused c.in-Err.test).0 c.in-Err.is)
+    let w = world_by g.D.Digester.sha256_digest g.D.Digester.sha1_digest g.V.Verifier.says c.args.reader.now in
+    form_fails w Ca signature_tests c.args.issuer.now c.args.cert.now c.in-Err.test ((c.inspect_ca.ensures.refused c.in-Err.test).0 c.in-Err.is)

@@ -1,5 +1,3 @@
-use Rattle.rpki_steps.specs.certs_key.Digesting.{digests_of}
-use Rattle.rpki_rules.specs.World.{world_of}
 use Rattle.rpki_rules.specs.Kinds.{Ipv4}
 use Rattle.rpki_steps.proofs.AnchorLemmas.{is_anchor, no_anchor}
 use Rattle.rpki_steps.proofs.anchor.locator.lead_to.Goals as goal
@@ -13,20 +11,8 @@ new-authority-requires g c =
 
 pub returns-in-Ok-clause-judged : goal.returns-in-Ok-clause-judged
 returns-in-Ok-clause-judged g c =
-    let d = digests_of g.D.Digester.sha256_digest g.D.Digester.sha1_digest c.args.digester.now in
-    let w = world_of d (g.V.Verifier.says c.args.verifier.now) c.args.index.now in
-    let l = c.args.locator.now in
-    let k = c.args.tal.now.key in
-    let u = c.args.object.now.uri in
-    let o = c.args.object.now.octets in
-    λ h. is_anchor w l k c.in_ok-name.name.value u o h (record { uri = c.in_ok-uri.uri; authority = c.new-authority.result }) c.in-Ok.anchor c.in_ok-uri.ensures.cases c.new-authority.ensures c.in_ok-name.ensures (rw (c.in-Ok.is, c.key_info-key.ensures) at c.in_ok-anchor.ensures.found)
+    λ h. is_anchor _ _ _ c.in_ok-name.name.value _ _ h (record { uri = c.in_ok-uri.uri; authority = c.new-authority.result }) c.in-Ok.anchor c.in_ok-uri.ensures.cases c.new-authority.ensures c.in_ok-name.ensures (rw (c.in-Ok.is, c.key_info-key.ensures) at c.in_ok-anchor.ensures.found)
 
 pub returns-in-Err-clause-judged : goal.returns-in-Err-clause-judged
 returns-in-Err-clause-judged g c =
-    let d = digests_of g.D.Digester.sha256_digest g.D.Digester.sha1_digest c.args.digester.now in
-    let w = world_of d (g.V.Verifier.says c.args.verifier.now) c.args.index.now in
-    let l = c.args.locator.now in
-    let k = c.args.tal.now.key in
-    let u = c.args.object.now.uri in
-    let o = c.args.object.now.octets in
-    λ h. no_anchor w l k c.in_ok-name.name.value u o h c.in-Err.reason (rw (c.in-Err.is, c.key_info-key.ensures) at c.in_ok-anchor.ensures.found)
+    λ h. no_anchor _ _ _ c.in_ok-name.name.value _ _ h c.in-Err.reason (rw (c.in-Err.is, c.key_info-key.ensures) at c.in_ok-anchor.ensures.found)

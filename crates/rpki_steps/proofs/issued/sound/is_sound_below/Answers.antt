@@ -1,16 +1,15 @@
 use Rattle.std.proofs.Common.{sym}
-use Rattle.rpki_standing.specs.certs_key.Digesting.{digests_of}
 use Rattle.rpki_steps.specs.certs_extension.declared.forms.Role.TheVariants.{Ca}
 use Rattle.rpki_rules.specs.FileReasons.{PassesRevocation, revocation_tests}
 use Rattle.rpki_rules.specs.Reasons.{PassesCert, cert_tests}
-use Rattle.rpki_rules.specs.World.{world_of}
 use Rattle.rpki_rules.proofs.Firsts.{none_fails}
+use Rattle.rpki_standing.specs.Readers.{world_by}
 use Rattle.rpki_steps.proofs.Passing.{never, told_ok}
 use Rattle.rpki_steps.proofs.issued.sound.is_sound_below.Goals as goal
 
 pub returns-in-Ok-clause-sound : goal.returns-in-Ok-clause-sound
 returns-in-Ok-clause-sound g c =
-    let w = world_of (digests_of g.D.Digester.sha256_digest g.D.Digester.sha1_digest c.args.digester.now) (g.V.Verifier.says c.args.verifier.now) c.args.index.now in
+    let w = world_by g.D.Digester.sha256_digest g.D.Digester.sha1_digest g.V.Verifier.says c.args.reader.now in
     let p = c.args.point.now.point in
     let cert = c.args.cert.now in
     let revocation = c.revocation_tests_are_rules.ensures p cert in

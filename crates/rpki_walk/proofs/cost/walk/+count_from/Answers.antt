@@ -12,8 +12,8 @@ use Rattle.rpki_walk.specs.declared.cost.tally.Tally.{Tally}
 use Rattle.rpki_walk.proofs.Mems.{mem_get_or}
 use Rattle.rpki_walk.proofs.Findings.{read_none, read_some}
 use Rattle.rpki_walk.proofs.Begins.{here}
-use Rattle.rpki_walk.proofs.Counting.{add_first, add_over, all_files, alone, child_counted, file_fresh, no_chain, stands_back, stands_by}
-use Rattle.rpki_walk.proofs.Tallies.{UpTo, tallies_cut, tallies_next, tallies_none}
+use Rattle.rpki_walk.proofs.Counting.{add_first, add_over, all_files, alone, child_counted, file_ended, file_fresh, stands_back, stands_by}
+use Rattle.rpki_walk.proofs.Tallies.{UpTo, tallies_cut, tallies_next}
 use Rattle.rpki_walk.proofs.cost.walk.+count_from.Goals as goal
 use Rattle.rpki_walk.proofs.cost.walk.+count_from.Goals.{in-Nothing, in-Refused, in-Attests, in-Child+in_ok-more-in-Child+in_ok-count_from-in-Child+else-not-branch-2}
 
@@ -38,8 +38,8 @@ returns-in_default-clause-facts g t c name a cs st eu acc seen k unseen =
     let sets = g.S.Repository.sets c.args.ca.now in
     let ca = g.S.Repository.cert c.args.ca.now in
     let n = read_none g.S.Repository.point w (InSet sets) ca c.in_ok-point.field-0 c.in_default.not-Some c.in_ok-point.ensures.read in
-    alone w name a cs acc (λ p s. n p (stands_back w name a cs c.args.keys.now c.args.uri.now ca sets st p s)) c.add.new.self seen
-    (add_first w name a cs acc c.args.tally.now c.add.new.self c.in_ok-add.field-0 c.if-not-branch.false c.in_ok-add.ensures.room c.args.above.now c.in_ok-add.ensures.added c.in_ok-add.ensures.budget eu seen k unseen)
+    alone w name a cs acc (λ p s. n p (stands_back w name a cs c.args.chain.now.keys.now c.args.chain.now.uri.now ca sets st p s)) c.add.new.self seen
+    (add_first w name a cs acc c.args.tally.now c.add.new.self c.in_ok-add.field-0 c.if-not-branch.false c.in_ok-add.ensures.room c.args.chain.now.above.now c.in_ok-add.ensures.added c.in_ok-add.ensures.budget eu seen k unseen)
 
 pub loop-file-init : goal.loop-file-init
 loop-file-init g t c = record {
@@ -47,7 +47,7 @@ loop-file-init g t c = record {
   lender = c.in_ok-point.ensures.lender;
   budget = c.in_ok-add.ensures.budget;
   counted = λ name a cs st eu acc seen k unseen.
-      add_first (g.S.Repository.world c.args.repository.now) name a cs acc c.args.tally.now c.add.new.self c.in_ok-add.field-0 c.if-not-branch.false c.in_ok-add.ensures.room c.args.above.now c.in_ok-add.ensures.added c.in_ok-add.ensures.budget eu seen k unseen;
+      add_first (g.S.Repository.world c.args.repository.now) name a cs acc c.args.tally.now c.add.new.self c.in_ok-add.field-0 c.if-not-branch.false c.in_ok-add.ensures.room c.args.chain.now.above.now c.in_ok-add.ensures.added c.in_ok-add.ensures.budget eu seen k unseen;
 }
 
 pub classify-requires : goal.classify-requires
@@ -65,7 +65,7 @@ loop-file-preserved g t c =
     let csets = g.S.Repository.sets c.args.ca.now in
     let held = InSet csets in
     let ca = g.S.Repository.cert c.args.ca.now in
-    let on = c.args.keys.now in let uri = c.args.uri.now in
+    let on = c.args.chain.now.keys.now in let uri = c.args.chain.now.uri.now in
     let inv = c.loop-file.invariant in
     let fs = c.deref-file-items.result.now in let i = c.loop-file.file-index in let d = c.file-item.result in
     let file = get_or fs i d in
@@ -78,39 +78,25 @@ loop-file-preserved g t c =
     let once : NoRepeat fs = subst NoRepeat (sym c.deref-file-items.ensures.value) c.in_ok-files.ensures.apart in
     let m : Mem (files ca p0.manifest) file = (same file).0 (mem_get_or fs i d l) in
     let mid = c.loop-file.tally in
+    let ended = file_ended g.S.Repository.cert g.S.Repository.sets g.S.Repository.payload w w1 inv.same c.args.chain.now.above.now on uri ca csets p0 s0 fs i d l o cl c.args.tally.now mid inv.counted in
     elim c.match-branch-7.branch [
       | in-Nothing v ↦ record {
         same = ap (λ q. g.S.Repository.world q) v.repository-is ∙ (c.in_ok-classify.ensures.same ∙ inv.same);
         lender = ap (λ q. g.S.Repository.lender q) v.repository-is ∙ (c.in_ok-classify.ensures.lender ∙ inv.lender);
         budget = ap (λ (q : Tally). q.budget) v.tally-is ∙ inv.budget;
-        counted = λ name a cs st eu acc seen k unseen. let u = inv.counted name a cs st eu acc seen k unseen in
-            subst (λ (q : Tally). Tallies (UpTo (λ x. here w name a cs ≡ x) (BeginsAt w name a cs) (take (i + 1) fs)) seen q true) (sym v.tally-is)
-            (tallies_next (λ x. here w name a cs ≡ x) (BeginsAt w name a cs) fs i d l seen mid u mid
-            (tallies_none (BeginsAt w name a cs file) u.chains mid
-            (no_chain g.S.Repository.cert g.S.Repository.sets g.S.Repository.payload w w1 inv.same name a cs on uri ca csets st p0 p0 s0 s0 file acc o cl (λ x y e. let f = sym v.in-Nothing.is ∙ e in absurd cc))
-            u.tally));
+        counted = ended _ v.tally-is (λ x y e. let f = sym v.in-Nothing.is ∙ e in absurd cc);
       }
       | in-Refused v ↦ record {
         same = ap (λ q. g.S.Repository.world q) v.repository-is ∙ (c.in_ok-classify.ensures.same ∙ inv.same);
         lender = ap (λ q. g.S.Repository.lender q) v.repository-is ∙ (c.in_ok-classify.ensures.lender ∙ inv.lender);
         budget = ap (λ (q : Tally). q.budget) v.tally-is ∙ inv.budget;
-        counted = λ name a cs st eu acc seen k unseen. let u = inv.counted name a cs st eu acc seen k unseen in
-            subst (λ (q : Tally). Tallies (UpTo (λ x. here w name a cs ≡ x) (BeginsAt w name a cs) (take (i + 1) fs)) seen q true) (sym v.tally-is)
-            (tallies_next (λ x. here w name a cs ≡ x) (BeginsAt w name a cs) fs i d l seen mid u mid
-            (tallies_none (BeginsAt w name a cs file) u.chains mid
-            (no_chain g.S.Repository.cert g.S.Repository.sets g.S.Repository.payload w w1 inv.same name a cs on uri ca csets st p0 p0 s0 s0 file acc o cl (λ x y e. let f = sym v.in-Refused.is ∙ e in absurd cc))
-            u.tally));
+        counted = ended _ v.tally-is (λ x y e. let f = sym v.in-Refused.is ∙ e in absurd cc);
       }
       | in-Attests v ↦ record {
         same = ap (λ q. g.S.Repository.world q) v.repository-is ∙ (c.in_ok-classify.ensures.same ∙ inv.same);
         lender = ap (λ q. g.S.Repository.lender q) v.repository-is ∙ (c.in_ok-classify.ensures.lender ∙ inv.lender);
         budget = ap (λ (q : Tally). q.budget) v.tally-is ∙ inv.budget;
-        counted = λ name a cs st eu acc seen k unseen. let u = inv.counted name a cs st eu acc seen k unseen in
-            subst (λ (q : Tally). Tallies (UpTo (λ x. here w name a cs ≡ x) (BeginsAt w name a cs) (take (i + 1) fs)) seen q true) (sym v.tally-is)
-            (tallies_next (λ x. here w name a cs ≡ x) (BeginsAt w name a cs) fs i d l seen mid u mid
-            (tallies_none (BeginsAt w name a cs file) u.chains mid
-            (no_chain g.S.Repository.cert g.S.Repository.sets g.S.Repository.payload w w1 inv.same name a cs on uri ca csets st p0 p0 s0 s0 file acc o cl (λ x y e. let f = sym v.in-Attests.is ∙ e in absurd cc))
-            u.tally));
+        counted = ended _ v.tally-is (λ x y e. let f = sym v.in-Attests.is ∙ e in absurd cc);
       }
       | in-Child+in_ok-more-in-Child+in_ok-count_from-in-Child+else-not-branch-2 v ↦ record {
         same = ap (λ q. g.S.Repository.world q) v.repository-is ∙ (v.in_ok-count_from-in-Child.ensures.same ∙ (c.in_ok-classify.ensures.same ∙ inv.same));
@@ -120,7 +106,7 @@ loop-file-preserved g t c =
             let n = child_counted g.S.Repository.cert g.S.Repository.sets g.S.Repository.payload w w1 inv.same name a cs on uri ca csets st p0 p0 s0 s0 file acc o cl v.in-Child.child v.in-Child.key v.in-Child.is m
             v.deref-in-Child.result.now (v.deref-in-Child.ensures.value ∙ v.in_ok-more-in-Child.ensures)
             (g.S.Repository.world c.classify.new.repository) (c.in_ok-classify.ensures.same ∙ inv.same)
-            v.deref.result.now (v.deref.ensures.value ∙ (c.in_ok-below.ensures ∙ λ j. st.uri_is j ∷ eu j))
+            v.deref.result.now (v.deref.ensures.value ∙ (c.in_ok-above.ensures ∙ λ j. st.uri_is j ∷ eu j))
             mid v.count_from.new.tally true
             (moved_counts (g.S.Repository.world c.classify.new.repository) v.deref.result.now v.deref-in-Child.result.now (g.S.Repository.cert v.in-Child.child) (g.S.Repository.sets v.in-Child.child) mid v.count_from.new.tally d file c.file-item.is v.in_ok-count_from-in-Child.field-0 true v.if-not-branch-2.false v.in_ok-count_from-in-Child.ensures.facts)
             u.chains u.tally (file_fresh w name a cs acc fs i d l once seen mid u unseen) in
@@ -136,7 +122,7 @@ returns-then-not-branch-2-clause-facts g t c name a cs st eu acc seen k unseen =
     let csets = g.S.Repository.sets c.args.ca.now in
     let held = InSet csets in
     let ca = g.S.Repository.cert c.args.ca.now in
-    let on = c.args.keys.now in let uri = c.args.uri.now in
+    let on = c.args.chain.now.keys.now in let uri = c.args.chain.now.uri.now in
     let inv = c.loop-file.invariant in
     let fs = c.deref-file-items.result.now in let i = c.loop-file.file-index in let d = c.file-item.result in
     let file = get_or fs i d in
@@ -153,7 +139,7 @@ returns-then-not-branch-2-clause-facts g t c name a cs st eu acc seen k unseen =
     let n = child_counted g.S.Repository.cert g.S.Repository.sets g.S.Repository.payload w w1 inv.same name a cs on uri ca csets st p0 p0 s0 s0 file acc o cl c.in-Child.child c.in-Child.key c.in-Child.is m
     c.deref-in-Child.result.now (c.deref-in-Child.ensures.value ∙ c.in_ok-more-in-Child.ensures)
     (g.S.Repository.world c.classify.new.repository) (c.in_ok-classify.ensures.same ∙ inv.same)
-    c.deref.result.now (c.deref.ensures.value ∙ (c.in_ok-below.ensures ∙ λ j. st.uri_is j ∷ eu j))
+    c.deref.result.now (c.deref.ensures.value ∙ (c.in_ok-above.ensures ∙ λ j. st.uri_is j ∷ eu j))
     mid c.count_from.new.tally false
     (moved_counts (g.S.Repository.world c.classify.new.repository) c.deref.result.now c.deref-in-Child.result.now (g.S.Repository.cert c.in-Child.child) (g.S.Repository.sets c.in-Child.child) mid c.count_from.new.tally d file c.file-item.is c.in_ok-count_from-in-Child.field-0 false c.if-not-branch-2.true c.in_ok-count_from-in-Child.ensures.facts)
     u.chains u.tally (file_fresh w name a cs acc fs i d l once seen mid u unseen) in
@@ -173,4 +159,4 @@ returns-clause-facts g t c name a cs st eu acc seen k unseen =
     let same = same_files fs c.in_ok-files.files.items c.uris.result.now (files ca p0.manifest) c.deref-file-items.ensures.value c.in_ok-files.ensures.same c.uris.ensures in
     let there = λ (f : List ℕ). subst (λ (q : Cert). Mem fs f ↔ Mem (files q p0.manifest) f) st.ca_is (same f) in
     let all = subst (λ (xs : List (List ℕ)). Tallies (UpTo (λ x. here w name a cs ≡ x) (BeginsAt w name a cs) xs) seen c.loop-file.tally true) (take_all c.loop-file.file-index fs c.loop-file-test.false) (c.loop-file.invariant.counted name a cs st eu acc seen k unseen) in
-    all_files w name a cs acc p0 (stands_by w name a cs c.args.keys.now c.args.uri.now ca csets st p0 s0) fs (λ f. (there f).0) (λ f. (there f).1) c.loop-file.tally seen true all
+    all_files w name a cs acc p0 (stands_by w name a cs c.args.chain.now.keys.now c.args.chain.now.uri.now ca csets st p0 s0) fs (λ f. (there f).0) (λ f. (there f).1) c.loop-file.tally seen true all

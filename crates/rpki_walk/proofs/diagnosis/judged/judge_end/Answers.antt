@@ -15,8 +15,8 @@ use Rattle.rpki_walk.proofs.diagnosis.judged.judge_end.Goals as goal
 pub returns-in-Ok-clause-wrong : goal.returns-in-Ok-clause-wrong
 returns-in-Ok-clause-wrong g c =
     let w = g.S.Repository.world c.args.repository.now in let held = InSet (g.S.Repository.sets c.args.ca.now) in
-    let ca = g.S.Repository.cert c.args.ca.now in let path = path_of c.args.path.now.value in
-    let on = c.args.keys.now in let uri = c.args.uri.now in
+    let ca = g.S.Repository.cert c.args.ca.now in let path = path_of c.args.chain.now.path.now.value in
+    let on = c.args.chain.now.keys.now in let uri = c.args.chain.now.uri.now in
     let p = g.S.Repository.point c.in-Ok.point in let old = c.args.found.now.items in let new = c.judge_files.new.found.items in
     let s = point_answer g.S.Repository.point w held ca c.in_ok-point.field-0 (Ok c.in-Ok.point) c.in-Ok.is c.in_ok-point.ensures.judged in
     let said : World → Type 0 = λ v. Adds diagnosis_of old (λ (d : DiagnosisValue). (u : List ℕ) × Mem (files ca p.manifest) u × DiagnosesAt v held on path ca p u d) new in
@@ -27,8 +27,8 @@ returns-in-Ok-clause-wrong g c =
 pub returns-in-Ok-clause-told : goal.returns-in-Ok-clause-told
 returns-in-Ok-clause-told g c =
     let w = g.S.Repository.world c.args.repository.now in let held = InSet (g.S.Repository.sets c.args.ca.now) in
-    let ca = g.S.Repository.cert c.args.ca.now in let path = path_of c.args.path.now.value in
-    let on = c.args.keys.now in let uri = c.args.uri.now in
+    let ca = g.S.Repository.cert c.args.ca.now in let path = path_of c.args.chain.now.path.now.value in
+    let on = c.args.chain.now.keys.now in let uri = c.args.chain.now.uri.now in
     let p = g.S.Repository.point c.in-Ok.point in let old = c.args.found.now.items in let new = c.judge_files.new.found.items in
     let s = point_answer g.S.Repository.point w held ca c.in_ok-point.field-0 (Ok c.in-Ok.point) c.in-Ok.is c.in_ok-point.ensures.judged in
     let said : World → Type 0 = λ v. Adds told_of old (λ (t : ToldValue). (u : List ℕ) × Mem (files ca p.manifest) u × TellsAt v held on path ca p u t) new in
@@ -39,8 +39,8 @@ returns-in-Ok-clause-told g c =
 pub returns-in_ok-push-in-Err-clause-wrong : goal.returns-in_ok-push-in-Err-clause-wrong
 returns-in_ok-push-in-Err-clause-wrong g c =
     let w = g.S.Repository.world c.args.repository.now in let held = InSet (g.S.Repository.sets c.args.ca.now) in
-    let ca = g.S.Repository.cert c.args.ca.now in let path = path_of c.args.path.now.value in
-    let on = c.args.keys.now in let uri = c.args.uri.now in
+    let ca = g.S.Repository.cert c.args.ca.now in let path = path_of c.args.chain.now.path.now.value in
+    let on = c.args.chain.now.keys.now in let uri = c.args.chain.now.uri.now in
     let r = c.in-Err.reason in let z = c.new-wrong.result in let old = c.args.found.now.items in let new = c.push.new.self.items in
     let j = point_answer g.S.Repository.point w held ca c.in_ok-point.field-0 (Err r) c.in-Err.is c.in_ok-point.ensures.judged in
     let e : diagnosis_of z ≡ on_chain path uri (OfPoint (point_reason_of r)) = c.new-wrong.ensures.value ∙ (λ i. on_chain (path_of (c.in_ok-clone-in-Err-2.ensures.cases i)) (c.in_ok-clone-in-Err.ensures.cases i) (OfPoint (point_reason_of r))) in
@@ -50,8 +50,8 @@ returns-in_ok-push-in-Err-clause-wrong g c =
 pub returns-in_ok-push-in-Err-clause-told : goal.returns-in_ok-push-in-Err-clause-told
 returns-in_ok-push-in-Err-clause-told g c =
     let w = g.S.Repository.world c.args.repository.now in let held = InSet (g.S.Repository.sets c.args.ca.now) in
-    let ca = g.S.Repository.cert c.args.ca.now in let path = path_of c.args.path.now.value in
-    let on = c.args.keys.now in let uri = c.args.uri.now in
+    let ca = g.S.Repository.cert c.args.ca.now in let path = path_of c.args.chain.now.path.now.value in
+    let on = c.args.chain.now.keys.now in let uri = c.args.chain.now.uri.now in
     let r = c.in-Err.reason in let z = c.new-wrong.result in let old = c.args.found.now.items in let new = c.push.new.self.items in
     let j = point_answer g.S.Repository.point w held ca c.in_ok-point.field-0 (Err r) c.in-Err.is c.in_ok-point.ensures.judged in
     let e : diagnosis_of z ≡ on_chain path uri (OfPoint (point_reason_of r)) = c.new-wrong.ensures.value ∙ (λ i. on_chain (path_of (c.in_ok-clone-in-Err-2.ensures.cases i)) (c.in_ok-clone-in-Err.ensures.cases i) (OfPoint (point_reason_of r))) in

@@ -22,7 +22,7 @@ pub loop-file-preserved : goal.loop-file-preserved
 loop-file-preserved g c =
     let w = g.S.Repository.world c.args.repository.now in let held = InSet (g.S.Repository.sets c.args.ca.now) in
     let ca = g.S.Repository.cert c.args.ca.now in let p = g.S.Repository.point c.args.point.now in
-    let path = path_of c.args.path.now.value in let on = c.args.keys.now in
+    let path = path_of c.args.chain.now.path.now.value in let on = c.args.chain.now.keys.now in
     let fs = c.uris-file-items.result.now in let i = c.loop-file.file-index in
     let d = c.file-item.result in let o = c.in_ok-wrong.field-0 in let inv = c.loop-file.invariant in let file = get_or fs i d in
     let old = c.args.found.now.items in let mid = c.loop-file.found.items in let new = c.match-branch-2.found.items in
@@ -49,7 +49,7 @@ pub returns-clause-wrong : goal.returns-clause-wrong
 returns-clause-wrong g c =
     let w = g.S.Repository.world c.args.repository.now in let held = InSet (g.S.Repository.sets c.args.ca.now) in
     let ca = g.S.Repository.cert c.args.ca.now in let p = g.S.Repository.point c.args.point.now in
-    let path = path_of c.args.path.now.value in let on = c.args.keys.now in
+    let path = path_of c.args.chain.now.path.now.value in let on = c.args.chain.now.keys.now in
     let fs = c.uris-file-items.result.now in let i = c.loop-file.file-index in
     subst (λ (xs : List (List ℕ)). Adds diagnosis_of c.args.found.now.items (λ (d : DiagnosisValue). (u : List ℕ) × Mem xs u × DiagnosesAt w held on path ca p u d) c.loop-file.found.items)
     (take_all i fs c.loop-file-test.false ∙ c.uris-file-items.ensures) c.loop-file.invariant.wrong
@@ -58,7 +58,7 @@ pub returns-clause-told : goal.returns-clause-told
 returns-clause-told g c =
     let w = g.S.Repository.world c.args.repository.now in let held = InSet (g.S.Repository.sets c.args.ca.now) in
     let ca = g.S.Repository.cert c.args.ca.now in let p = g.S.Repository.point c.args.point.now in
-    let path = path_of c.args.path.now.value in let on = c.args.keys.now in
+    let path = path_of c.args.chain.now.path.now.value in let on = c.args.chain.now.keys.now in
     let fs = c.uris-file-items.result.now in let i = c.loop-file.file-index in
     subst (λ (xs : List (List ℕ)). Adds told_of c.args.found.now.items (λ (t : ToldValue). (u : List ℕ) × Mem xs u × TellsAt w held on path ca p u t) c.loop-file.found.items)
     (take_all i fs c.loop-file-test.false ∙ c.uris-file-items.ensures) c.loop-file.invariant.told

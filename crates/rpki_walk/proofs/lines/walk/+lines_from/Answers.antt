@@ -82,8 +82,10 @@ loop-file-preserved g t c =
     let cl : Classified g.S.Repository.cert g.S.Repository.sets g.S.Repository.payload w1 held ca p0 on file o = subst (λ (u : List ℕ). Classified g.S.Repository.cert g.S.Repository.sets g.S.Repository.payload w1 held ca p0 on u o) here c.in_ok-classify_met.ensures.class in
     let m : Mem (files ca p0.manifest) file = subst (λ (xs : List (List ℕ)). Mem xs file) c.uris-file-items.ensures (mem_get_or fs i d l) in
     let first = c.args.walk.now in
-    let mid = c.loop-file.walk in
-    let seen : LinesWalk = record { lines = mid.lines; met = c.classify_met.new.met; before = mid.before } in
+    let gone = c.loop-file.walk in
+    let seen = c.classify_met.new.self in
+    let mid : LinesWalk = record { lines = seen.lines; met = gone.met; before = seen.before } in
+    let here_is : mid ≡ gone = λ j. record { lines = c.in_ok-classify_met.ensures.lines j; met = gone.met; before = c.in_ok-classify_met.ensures.before j } in
     let met = drop (length mid.met.items) seen.met.items in
     let grown : Continues mid.met.items seen.met.items = c.in_ok-classify_met.ensures.grown in
     let keyed : MeetsFile w1 held ca p0 file met = moved_keyed w1 held ca p0 met c.as_slice.result.now file here c.in_ok-classify_met.ensures.keyed in
@@ -92,7 +94,7 @@ loop-file-preserved g t c =
       | in-Nothing v ↦ record {
         same = ap (λ q. g.S.Repository.world q) v.repository-is ∙ (c.in_ok-classify_met.ensures.same ∙ inv.same);
         lender = ap (λ q. g.S.Repository.lender q) v.repository-is ∙ (c.in_ok-classify_met.ensures.lender ∙ inv.lender);
-        told = λ name a cs p st acc s all. let u = inv.told name a cs p st acc s all in
+        told = λ name a cs p st acc s all. let u = moved_up w first mid gone c.loop-file.from c.loop-file.from name a cs p (take i fs) here_is refl (inv.told name a cs p st acc s all) in
             let path : PathValue = record { locator = name; chain = places a cs } in
             moved_up w first _ _ _ _ name a cs p (take (i + 1) fs) v.walk-is v.from-is
             (up_ended w first mid seen name a cs p fs i d c.loop-file.from l u
@@ -103,7 +105,7 @@ loop-file-preserved g t c =
       | in-Refused+in_ok-refuse-in-Refused v ↦ record {
         same = ap (λ q. g.S.Repository.world q) v.repository-is ∙ (c.in_ok-classify_met.ensures.same ∙ inv.same);
         lender = ap (λ q. g.S.Repository.lender q) v.repository-is ∙ (c.in_ok-classify_met.ensures.lender ∙ inv.lender);
-        told = λ name a cs p st acc s all. let u = inv.told name a cs p st acc s all in
+        told = λ name a cs p st acc s all. let u = moved_up w first mid gone c.loop-file.from c.loop-file.from name a cs p (take i fs) here_is refl (inv.told name a cs p st acc s all) in
             let path : PathValue = record { locator = name; chain = places a cs } in
             moved_up w first _ _ _ _ name a cs p (take (i + 1) fs) v.walk-is v.from-is
             (up_ended w first mid _ name a cs p fs i d c.loop-file.from l u
@@ -115,7 +117,7 @@ loop-file-preserved g t c =
       | in-Attests+in_ok-show-in-Attests v ↦ record {
         same = ap (λ q. g.S.Repository.world q) v.repository-is ∙ (c.in_ok-classify_met.ensures.same ∙ inv.same);
         lender = ap (λ q. g.S.Repository.lender q) v.repository-is ∙ (c.in_ok-classify_met.ensures.lender ∙ inv.lender);
-        told = λ name a cs p st acc s all. let u = inv.told name a cs p st acc s all in
+        told = λ name a cs p st acc s all. let u = moved_up w first mid gone c.loop-file.from c.loop-file.from name a cs p (take i fs) here_is refl (inv.told name a cs p st acc s all) in
             let path : PathValue = record { locator = name; chain = places a cs } in
             moved_up w first _ _ _ _ name a cs p (take (i + 1) fs) v.walk-is v.from-is
             (up_ended w first mid _ name a cs p fs i d c.loop-file.from l u
@@ -127,7 +129,7 @@ loop-file-preserved g t c =
       | in-Child+in_ok-more-in-Child+in_ok-since-in-Child v ↦ record {
         same = ap (λ q. g.S.Repository.world q) v.repository-is ∙ (v.in_ok-since-in-Child.ensures.same ∙ (c.in_ok-classify_met.ensures.same ∙ inv.same));
         lender = ap (λ q. g.S.Repository.lender q) v.repository-is ∙ (v.in_ok-since-in-Child.ensures.lender ∙ (c.in_ok-classify_met.ensures.lender ∙ inv.lender));
-        told = λ name a cs p st acc s all. let u = inv.told name a cs p st acc s all in
+        told = λ name a cs p st acc s all. let u = moved_up w first mid gone c.loop-file.from c.loop-file.from name a cs p (take i fs) here_is refl (inv.told name a cs p st acc s all) in
             let v1 = g.S.Repository.world c.classify_met.new.repository in
             let cert = g.S.Repository.cert v.in-Child.child in
             let sets = g.S.Repository.sets v.in-Child.child in

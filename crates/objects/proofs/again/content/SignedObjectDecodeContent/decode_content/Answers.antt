@@ -1,7 +1,7 @@
 use Rattle.std.proofs.Common.{List, ℕ, subst, ◌∙◌}
 use Rattle.objects_written.specs.bcder_tree.declared.mode.Mode.TheVariants.{Der}
 use Rattle.objects_written.specs.bcder_content.Captures.{rest_of}
-use Rattle.objects_written.specs.bcder_content.Ran.{Decoded, fresh}
+use Rattle.objects_written.specs.bcder_content.ClosureReads.{Decoded, fresh}
 use Rattle.objects.proofs.again.content.SignedObjectDecodeContent.decode_content.Goals as goal
 
 pub returns-in-Ok : goal.returns-in-Ok

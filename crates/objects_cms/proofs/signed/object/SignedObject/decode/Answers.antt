@@ -2,7 +2,7 @@ use Rattle.objects_cms.proofs.Whole.{decodes_object}
 use Rattle.std.proofs.Common.{IfErr, subst}
 use Rattle.objects_cms.specs.bcder_tree.declared.mode.Mode.{Mode}
 use Rattle.objects_cms.specs.bcder_content.Memory.{OnMemory}
-use Rattle.objects_cms.specs.bcder_content.Ran.{fresh}
+use Rattle.objects_cms.specs.bcder_content.ClosureReads.{fresh}
 use Rattle.objects_cms.specs.Begun.{BeginsObject}
 use Rattle.objects_cms.proofs.Beginning.{begun}
 use Rattle.objects_cms.proofs.signed.object.SignedObject.decode.Goals as goal

@@ -15,7 +15,7 @@ returns-clause-gained g c =
     let w = g.S.Repository.world c.args.repository.now in
     let held = InSet (g.S.Repository.sets c.args.ca.now) in
     let ca = g.S.Repository.cert c.args.ca.now in
-    let path = path_of c.args.path.now.value in let on = c.args._keys.now in let uri = c.args._uri.now in
+    let path = path_of c.args.chain.now.path.now.value in let on = c.args.chain.now.keys.now in let uri = c.args.chain.now.uri.now in
     let tells = authority_names uris c.in_ok-keys.keys.items w ca c.in_ok-keys.ensures.named in
     let e : c.names_any.result ≡ names_any uris c.in_ok-keys.keys.items = c.names_any.ensures ∙ ap (λ (ks : List (List ℕ)). names_any uris ks) c.deref.ensures.value in
     elim c.if-names_any.branch [

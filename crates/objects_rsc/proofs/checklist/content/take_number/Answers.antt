@@ -1,9 +1,0 @@
-use Rattle.std.proofs.Common.{refl}
-use Rattle.objects_payload.proofs.of_bcder_content.InMode.{begin, next, stop, done}
-use Rattle.objects_rsc.proofs.checklist.content.take_number.Goals as goal
-
-pub returns-in_err-number : goal.returns-in_err-number
-returns-in_err-number g c = stop _ begin c.from_residual.ensures c.in_err-number.ensures.reads
-
-pub returns : goal.returns
-returns g c = done (next begin c.in_ok-number.ensures.reads) refl
