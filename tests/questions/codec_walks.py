@@ -1,4 +1,4 @@
-"""Questions about values that are gone past, for tests/questions/bcder_cases.py, and their answers.
+"""Questions about values that are gone past, for tests/questions/codec.py.
 
 The answers come from a reader of this module after X.690 8.1, 9.1 and 10.1. The questions are random trees as they are
 spelled in each mode, the same with an octet changed, left out or put in, all short rows of octets that mean something in
@@ -206,8 +206,8 @@ def spellings():
         yield b"\x04" + bytes([size & 0x7F]) + bytes(size)
 
 
-def questions():
-    """Each question once, with its answer."""
+def ask(q):
+    """Asks of each row of octets once in each mode."""
     for octets in dict.fromkeys(spellings()):
         for mode in MODES:
-            yield f"walks\t{mode}\t{octets.hex()}", answer(mode, octets)
+            q.ask(answer(mode, octets), "walks", mode, octets.hex())
