@@ -1,69 +1,41 @@
-"""Questions about sets of AS numbers and addresses, and their answers, which tests/questions/resources_calls.py writes to
-crates/resources_cases.
+"""Questions about sets of AS numbers and addresses: texts, what two sets come to, claims, paths and encodings.
 
-The answers come from Python's own integers, sets of ranges and `ipaddress`, and from the worked case
-`resource-cases`.
+The answers come from Python's own integers, sets of ranges and `ipaddress`, and from the worked case `resource-cases`.
 """
 
 import ipaddress
 import random
 
+from resources_parts import as_block, bits, difference, integer, intersection, ip_family, maximal, shortest, tlv, union
+
 rng = random.Random(3779)
 
 
-def maximal(ranges):
-    """Maximal runs, ascending."""
-    runs = []
-    for first, last in sorted(ranges):
-        if runs and first <= runs[-1][1] + 1:
-            runs[-1] = (runs[-1][0], max(runs[-1][1], last))
-        else:
-            runs.append((first, last))
-    return runs
+class Kind:
+    """AS numbers or addresses of one family, and their texts."""
+
+    def shown(self, runs):
+        return ", ".join(self.block(*run) for run in runs)
+
+    def spelled(self, ranges):
+        """A text of the ranges, by one of the texts of each."""
+        return rng.choice([", ", ","]).join(self.spelling(*one) for one in ranges)
 
 
-def inside(runs, ends):
-    """Each range between two neighbouring ends is in the runs or out of them."""
-    return {(a, b) for a, b in zip(ends, ends[1:]) if any(f <= a and b - 1 <= l for f, l in runs)}
-
-
-def cut(one, other):
-    ends = sorted({e for f, l in one + other for e in (f, l + 1)})
-    return inside(one, ends), inside(other, ends)
-
-
-def joined(parts):
-    return maximal([(a, b - 1) for a, b in parts])
-
-
-def union(one, other):
-    return maximal(one + other)
-
-
-def intersection(one, other):
-    a, b = cut(one, other)
-    return joined(a & b)
-
-
-def difference(one, other):
-    a, b = cut(one, other)
-    return joined(a - b)
-
-
-class Numbers:
+class Numbers(Kind):
     word, bits, what = "as", 32, "AS"
 
     def block(self, first, last):
         return f"AS{first}" if first == last else f"AS{first}-AS{last}"
 
-    def spelled(self, first, last):
+    def spelling(self, first, last):
         prefix = lambda: rng.choice(["AS", "as", "As", ""])
         if first == last and rng.random() < 0.8:
             return f"{prefix()}{first}"
         return f"{prefix()}{first}-{prefix()}{last}"
 
 
-class Addresses:
+class Addresses(Kind):
     def __init__(self, version):
         self.word = f"v{version}"
         self.what = f"IPv{version}"
@@ -78,24 +50,10 @@ class Addresses:
         prefixes = self.prefixes(first, last)
         return str(prefixes[0]) if len(prefixes) == 1 else f"{self.address(first)}-{self.address(last)}"
 
-    def spelled(self, first, last):
+    def spelling(self, first, last):
         if rng.random() < 0.5:
             return f"{self.address(first)}-{self.address(last)}"
         return self.block(first, last)
-
-
-class Questions:
-    def __init__(self):
-        self.rows = []
-
-    def ask(self, answer, *words):
-        self.rows.append(("\t".join(words), answer))
-
-    def text(self, kind, runs):
-        return ", ".join(kind.block(f, l) for f, l in runs)
-
-    def spelled(self, kind, ranges):
-        return rng.choice([", ", ","]).join(kind.spelled(f, l) for f, l in ranges)
 
 
 def ranges(kind, most):
@@ -112,29 +70,29 @@ def ranges(kind, most):
 def sets(q, kind, reads, pairs):
     for _ in range(reads):
         r = ranges(kind, 6)
-        q.ask(q.text(kind, maximal(r)), kind.word, "read", q.spelled(kind, r))
+        q.ask(kind.shown(maximal(r)), kind.word, "read", kind.spelled(r))
     for _ in range(pairs):
         r = ranges(kind, 6)
         s = [(f + rng.randrange(3), l + 3) for f, l in r if l + 3 < 2 ** kind.bits] + ranges(kind, 3)
         one, other = maximal(r), maximal(s)
-        two = q.spelled(kind, r), q.spelled(kind, s)
-        q.ask(q.text(kind, union(one, other)), kind.word, "union", *two)
-        q.ask(q.text(kind, intersection(one, other)), kind.word, "intersection", *two)
-        q.ask(q.text(kind, difference(one, other)), kind.word, "difference", *two)
+        two = kind.spelled(r), kind.spelled(s)
+        q.ask(kind.shown(union(one, other)), kind.word, "union", *two)
+        q.ask(kind.shown(intersection(one, other)), kind.word, "intersection", *two)
+        q.ask(kind.shown(difference(one, other)), kind.word, "difference", *two)
         q.ask("true" if difference(one, other) == [] else "false", kind.word, "within", *two)
-        q.ask("true", kind.word, "within", q.spelled(kind, intersection(one, other)), two[0])
+        q.ask("true", kind.word, "within", kind.spelled(intersection(one, other)), two[0])
         claims(q, kind, one, other, two)
 
 
-def outside(q, kind, runs):
-    return f"refused: overclaimed {kind.what} resources: {q.text(kind, runs)}"
+def outside(kind, runs):
+    return f"refused: overclaimed {kind.what} resources: {kind.shown(runs)}"
 
 
 def claims(q, kind, one, other, two):
     held, over = intersection(other, one), difference(other, one)
-    q.ask(q.text(kind, held), kind.word, "trim", *two)
-    q.ask(outside(q, kind, over) if over else q.text(kind, held), kind.word, "refuse", *two)
-    q.ask(outside(q, kind, over) if over else q.text(kind, one), kind.word, "covered", *two)
+    q.ask(kind.shown(held), kind.word, "trim", *two)
+    q.ask(outside(kind, over) if over else kind.shown(held), kind.word, "refuse", *two)
+    q.ask(outside(kind, over) if over else kind.shown(one), kind.word, "covered", *two)
 
 
 def paths(q, kind, count):
@@ -147,13 +105,13 @@ def paths(q, kind, count):
             if rng.random() < 0.3:
                 words += [policy, "inherit"]
                 continue
-            words += [policy, q.spelled(kind, listed)]
+            words += [policy, kind.spelled(listed)]
             if answer is None and policy == "refuse" and difference(maximal(listed), held):
-                answer = outside(q, kind, difference(maximal(listed), held))
+                answer = outside(kind, difference(maximal(listed), held))
             held = intersection(maximal(listed), held)
             if kind.word == "as" and listed == []:
                 held = []
-        q.ask(q.text(kind, held) if answer is None else answer, kind.word, "path", q.spelled(kind, root), *words)
+        q.ask(kind.shown(held) if answer is None else answer, kind.word, "path", kind.spelled(root), *words)
 
 
 def numbers(q):
@@ -161,8 +119,8 @@ def numbers(q):
     for _ in range(60):
         r = maximal(ranges(kind, 5))
         each = [n for f, l in r for n in range(f, l + 1)]
-        q.ask(str(len(each)), kind.word, "count", q.spelled(kind, r))
-        q.ask("".join(f"AS{n};" for n in each[:12]), kind.word, "each", q.spelled(kind, r))
+        q.ask(str(len(each)), kind.word, "count", kind.spelled(r))
+        q.ask("".join(f"AS{n};" for n in each[:12]), kind.word, "each", kind.spelled(r))
     q.ask("4294967296", "as", "count", "AS0-AS4294967295")
     q.ask("AS4294967294;AS4294967295;", "as", "each", "AS4294967294-AS4294967295")
     q.ask("refused: inherited AS resources", "as", "resources", "inherit")
@@ -180,20 +138,6 @@ def numbers(q):
     q.ask("AS64500", "as", "trim", "AS64496-AS64511", "AS64500, AS64512")
 
 
-def tlv(tag, content):
-    size = len(content)
-    octets = size.to_bytes((size.bit_length() + 7) // 8, "big")
-    return bytes([tag, size] if size < 128 else [tag, 128 + len(octets), *octets]) + content
-
-
-def integer(n):
-    return tlv(2, n.to_bytes(n.bit_length() // 8 + 1, "big", signed=True))
-
-
-def as_block(first, last):
-    return integer(first) if first == last else tlv(0x30, integer(first) + integer(last))
-
-
 def as_resources(content):
     return tlv(0x30, tlv(0xA0, content))
 
@@ -203,7 +147,7 @@ def encodings(q):
     for _ in range(100):
         r = ranges(kind, 6)
         octets = as_resources(tlv(0x30, b"".join(as_block(*block) for block in r)))
-        q.ask(q.text(kind, maximal(r)) + ".", "as", "decode", octets.hex())
+        q.ask(kind.shown(maximal(r)) + ".", "as", "decode", octets.hex())
     # `resource-cases`: refused, inherited, and the empty set that is listed.
     q.ask("refused: no AS resources", "as", "decode", "3000")
     q.ask("inherit.", "as", "decode", "3004a0020500")
@@ -247,22 +191,8 @@ def encodings(q):
         q.ask("refused: the content failed", "as", "forgotten", octets.hex())
 
 
-def bits(value, count):
-    """A BIT STRING of the first `count` of all bits of `value`, in DER."""
-    size = (count + 7) // 8
-    return tlv(3, bytes([8 * size - count]) + (value << (8 * size - count)).to_bytes(size, "big"))
-
-
-def shortest(kind, address, end):
-    """How many bits are left of an address where those at its end, zeros or ones, are cut."""
-    count = kind.bits
-    while count and address >> (kind.bits - count) & 1 == end:
-        count -= 1
-    return count
-
-
 def end_of_range(kind, address, end):
-    count = rng.randrange(shortest(kind, address, end), kind.bits + 1)
+    count = rng.randrange(shortest(kind.bits, address, end), kind.bits + 1)
     return bits(address >> (kind.bits - count), count)
 
 
@@ -278,10 +208,6 @@ def ip_blocks(kind, listed):
     return tlv(0x30, b"".join(ip_block(kind, *block) for block in listed))
 
 
-def ip_family(version, content):
-    return tlv(0x30, tlv(4, bytes([0, 1 if version == 4 else 2])) + content)
-
-
 NULL = tlv(5, b"")
 NO_IP = "refused: no IP resources"
 
@@ -295,7 +221,7 @@ def families(q):
             kind = kinds[version]
             listed = rng.choice([None, ranges(kind, 6), ranges(kind, 6), [wide(kind)]])
             octets += ip_family(version, NULL if listed is None else ip_blocks(kind, listed))
-            said[version] = "inherit" if listed is None else f"[{q.text(kind, maximal(listed))}]"
+            said[version] = "inherit" if listed is None else f"[{kind.shown(maximal(listed))}]"
         octets = tlv(0x30, octets)
         q.ask(f"{said[4]} {said[6]}", "ip", "decode", octets.hex())
         q.ask(f"{said[4]} {said[6]}", "ip", "decode", (octets + b"behind").hex())
@@ -315,7 +241,7 @@ def written_block(kind, first, last):
     if len(prefixes) == 1:
         count = prefixes[0].prefixlen
         return bits(first >> (kind.bits - count), count)
-    low, high = shortest(kind, first, 0), shortest(kind, last, 1)
+    low, high = shortest(kind.bits, first, 0), shortest(kind.bits, last, 1)
     return tlv(0x30, bits(first >> (kind.bits - low), low) + bits(last >> (kind.bits - high), high))
 
 
@@ -325,7 +251,7 @@ def written_blocks(q, kinds):
         listed = [ranges(kind, 4) or [(5, 9)] for _ in range(40)] + [[wide(kind)] for _ in range(60)]
         for one in listed + [[(0, 2 ** kind.bits - 1)], [(1, 2 ** kind.bits - 1)], [(0, 2 ** kind.bits - 2)], [(0, 0)]]:
             octets = b"".join(written_block(kind, *block) for block in maximal(one))
-            q.ask((family + octets).hex(), "ip", "encode", q.spelled(kind, one))
+            q.ask((family + octets).hex(), "ip", "encode", kind.spelled(one))
 
 
 def family_alone(q):
@@ -461,7 +387,7 @@ def written(q):
     kind = Numbers()
     for r in [ranges(kind, 6) for _ in range(80)] + [[], [(0, 2 ** 32 - 1)], [(127, 127), (129, 255)], [(32767, 32768)]]:
         bare = b"".join(as_block(*block) for block in maximal(r))
-        text = q.spelled(kind, r)
+        text = kind.spelled(r)
         q.ask(f"{as_resources(tlv(0x30, bare)).hex()} {bare.hex()}" if r else " ", "as", "encode", text)
     q.ask("3004a0020500", "as", "encode", "inherit")
 
@@ -473,7 +399,7 @@ def written_families(q):
         words, octets = [], b""
         for version, kind in kinds.items():
             listed = rng.choice(["missing", "inherit", ranges(kind, 4), [wide(kind)]])
-            words.append(listed if isinstance(listed, str) else q.spelled(kind, listed))
+            words.append(listed if isinstance(listed, str) else kind.spelled(listed))
             if listed == "inherit":
                 octets += ip_family(version, NULL)
             elif listed != "missing":
@@ -491,13 +417,13 @@ def written_families(q):
 THREE = (Numbers(), Addresses(4), Addresses(6))
 
 
-def print_set(q, three):
-    return "asn: '{}', ipv4: '{}', ipv6: '{}'".format(*(q.text(kind, runs) for kind, runs in zip(THREE, three)))
+def print_set(three):
+    return "asn: '{}', ipv4: '{}', ipv6: '{}'".format(*(kind.shown(runs) for kind, runs in zip(THREE, three)))
 
 
-def print_changes(q, added, removed):
+def print_changes(added, removed):
     def kinds(name, three):
-        parts = [f" {word}: {q.text(kind, runs)}" for word, kind, runs in zip(("asn", "ipv4", "ipv6"), THREE, three) if runs]
+        parts = [f" {word}: {kind.shown(runs)}" for word, kind, runs in zip(("asn", "ipv4", "ipv6"), THREE, three) if runs]
         return name + "".join(parts) if parts else ""
 
     parts = [part for part in (kinds("Added:", added), kinds("Removed:", removed)) if part]
@@ -509,19 +435,19 @@ def of_all(q):
         r = [rng.choice([[], ranges(kind, 4), ranges(kind, 4)]) for kind in THREE]
         s = [rng.choice([[], list(a), a + ranges(kind, 2), [(f, l) for f, l in a if rng.random() < 0.5]]) for kind, a in zip(THREE, r)]
         one, other = [maximal(a) for a in r], [maximal(a) for a in s]
-        words = [q.spelled(kind, a) for kind, a in zip(THREE, r)]
-        two = words + [q.spelled(kind, a) for kind, a in zip(THREE, s)]
+        words = [kind.spelled(a) for kind, a in zip(THREE, r)]
+        two = words + [kind.spelled(a) for kind, a in zip(THREE, s)]
         each = lambda f, a, b: [f(x, y) for x, y in zip(a, b)]
         added, removed = each(difference, one, other), each(difference, other, one)
-        q.ask(print_set(q, one), "all", "read", *words)
-        q.ask(print_set(q, one), "all", "resources", *(word or "none" if i else word for i, word in enumerate(words)))
+        q.ask(print_set(one), "all", "read", *words)
+        q.ask(print_set(one), "all", "resources", *(word or "none" if i else word for i, word in enumerate(words)))
         is_none = "true" if one == [[], [], []] else "false"
         q.ask(is_none, "all", "count", *words)
-        q.ask(f"{print_set(q, one)}; true; {is_none}; {q.text(THREE[0], one[0])}", "all", "each", *words)
-        q.ask(print_set(q, each(union, one, other)), "all", "union", *two)
-        q.ask(print_set(q, each(intersection, one, other)), "all", "intersection", *two)
+        q.ask(f"{print_set(one)}; true; {is_none}; {THREE[0].shown(one[0])}", "all", "each", *words)
+        q.ask(print_set(each(union, one, other)), "all", "union", *two)
+        q.ask(print_set(each(intersection, one, other)), "all", "intersection", *two)
         q.ask("true" if added == [[], [], []] else "false", "all", "within", *two)
-        changes = f"{print_changes(q, added, removed)}; {print_set(q, added)}; {print_set(q, removed)}"
+        changes = f"{print_changes(added, removed)}; {print_set(added)}; {print_set(removed)}"
         q.ask(changes, "all", "difference", *two)
     for i in range(3):
         words = ["AS1", "10.0.0.0/8", "::/0"]
@@ -532,9 +458,8 @@ def of_all(q):
     q.ask("1.3.6.1.5.5.7.14.3 1.3.6.1.5.5.7.1.28 1.3.6.1.5.5.7.1.29 true", "trim", "identifiers")
 
 
-def questions():
-    """Each question and its answer."""
-    q = Questions()
+def ask(q):
+    """Asks about sets of each kind, and of all three."""
     sets(q, Numbers(), 400, 25)
     sets(q, Addresses(4), 300, 25)
     sets(q, Addresses(6), 300, 25)
@@ -547,4 +472,3 @@ def questions():
     written(q)
     of_all(q)
     written_families(q)
-    return q.rows

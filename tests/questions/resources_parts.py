@@ -1,19 +1,27 @@
-"""What the questions of tests/questions/resources_calls.py are made of: numbers, addresses, blocks and their texts."""
+"""What the questions about resources are made of: numbers, addresses, blocks and their texts, sets of ranges, and values in DER."""
 
 import ipaddress
 import random
+
+import asking
 
 rng = random.Random(9582)
 LAST = 2**32 - 1
 V6_LAST = 2**128 - 1
 
 
-class Questions:
+class Questions(asking.Questions):
+    """Questions about resources. An answer is a text, or a list of what its words stand for."""
+
     def __init__(self):
-        self.rows = []
+        super().__init__("resources")
 
     def ask(self, answer, *words):
-        self.rows.append(("\t".join(words), " ".join(word(part) for part in answer) if isinstance(answer, (list, tuple)) else answer))
+        super().ask(answer if isinstance(answer, str) else " ".join(map(word, answer)), *words)
+
+    def call(self, answer, *words):
+        """Asks about a single call, behind the word `call`."""
+        self.ask(answer, "call", *words)
 
 
 def word(part):
@@ -165,3 +173,80 @@ def some_blocks(count):
 
 def shown_set(runs):
     return ["=", ", ".join(block_texts(*run)[1] for run in runs)]
+
+
+# Sets of ranges.
+
+
+def maximal(ranges):
+    """Maximal runs, ascending."""
+    runs = []
+    for first, last in sorted(ranges):
+        if runs and first <= runs[-1][1] + 1:
+            runs[-1] = (runs[-1][0], max(runs[-1][1], last))
+        else:
+            runs.append((first, last))
+    return runs
+
+
+def inside(runs, ends):
+    """Each range between two neighbouring ends is in the runs or out of them."""
+    return {(a, b) for a, b in zip(ends, ends[1:]) if any(f <= a and b - 1 <= l for f, l in runs)}
+
+
+def cut(one, other):
+    ends = sorted({e for f, l in one + other for e in (f, l + 1)})
+    return inside(one, ends), inside(other, ends)
+
+
+def joined(parts):
+    return maximal([(a, b - 1) for a, b in parts])
+
+
+def union(one, other):
+    return maximal(one + other)
+
+
+def intersection(one, other):
+    a, b = cut(one, other)
+    return joined(a & b)
+
+
+def difference(one, other):
+    a, b = cut(one, other)
+    return joined(a - b)
+
+
+# Values in DER.
+
+
+def tlv(tag, content):
+    size = len(content)
+    octets = size.to_bytes((size.bit_length() + 7) // 8, "big")
+    return bytes([tag, size] if size < 128 else [tag, 128 + len(octets), *octets]) + content
+
+
+def integer(n):
+    return tlv(2, n.to_bytes(n.bit_length() // 8 + 1, "big", signed=True))
+
+
+def as_block(first, last):
+    return integer(first) if first == last else tlv(0x30, integer(first) + integer(last))
+
+
+def bits(value, count):
+    """A BIT STRING of the first `count` of all bits of `value`, in DER."""
+    size = (count + 7) // 8
+    return tlv(3, bytes([8 * size - count]) + (value << (8 * size - count)).to_bytes(size, "big"))
+
+
+def shortest(width, address, end):
+    """How many bits are left of an address of so many where those at its end, zeros or ones, are cut."""
+    count = width
+    while count and address >> (width - count) & 1 == end:
+        count -= 1
+    return count
+
+
+def ip_family(version, content):
+    return tlv(0x30, tlv(4, bytes([0, 1 if version == 4 else 2])) + content)
