@@ -1,4 +1,4 @@
-"""Questions about moments and validity, for tests/questions/certs_cases.py.
+"""Questions about moments and validity, for tests/questions/certificates.py.
 
 A moment is a UTCTime (X.680 47) `YYMMDDHHMMSSZ` of the years 1950 to 2049, or a GeneralizedTime (X.680 46)
 `YYYYMMDDHHMMSSZ`, a real date of the proleptic Gregorian calendar with hours to 23, minutes and seconds to 59 (RFC 5280
@@ -9,7 +9,7 @@ import datetime
 import itertools
 import random
 
-from certs_name_cases import MODES, Reader, Refused, need, tlv, within
+from certificates_names import MODES, Reader, Refused, need, tlv, within
 
 rng = random.Random(1950)
 UTC, GENERAL = 23, 24

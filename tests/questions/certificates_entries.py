@@ -1,4 +1,4 @@
-"""Questions about entries of revocation lists by themselves, in each mode, for tests/questions/certs_cases.py (RFC 5280 5.1.2.6).
+"""Questions about entries of revocation lists by themselves, in each mode, for tests/questions/certificates.py (RFC 5280 5.1.2.6).
 
 An entry is a SEQUENCE of a serial number and a moment, with nothing after them (RFC 6487 5); a list of them is a SEQUENCE of
 entries, and is absent where there are none. Lengths are definite in DER, indefinite in CER, and both in BER (X.690 8.1.3, 9.1,
@@ -7,8 +7,8 @@ entries, and is absent where there are none. Lengths are definite in DER, indefi
 
 import random
 
-from certs_signed_cases import Refused, around, parts_of, tlv, value
-from crls_lists_cases import entry, entry_of, integer, seq
+from certificates_signed import Refused, around, parts_of, tlv, value
+from certificates_lists import entry, entry_of, integer, seq
 
 rng = random.Random(2459)
 

@@ -1,10 +1,10 @@
-"""Questions about revocation lists and stores of them, for tests/questions/certs_cases.py (RFC 5280 5.1, RFC 6487 5)."""
+"""Questions about revocation lists and stores of them, for tests/questions/certificates.py (RFC 5280 5.1, RFC 6487 5)."""
 
 import calendar
 import random
 import re
 
-from certs_signed_cases import SHA256_RSA, RSA, Refused, bits_of, content_of, has_null, need, parts_of, tlv, value
+from certificates_signed import SHA256_RSA, RSA, Refused, bits_of, content_of, has_null, need, parts_of, tlv, value
 
 rng = random.Random(6487)
 

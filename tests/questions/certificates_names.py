@@ -1,4 +1,4 @@
-"""Questions about names and serial numbers, for tests/questions/certs_cases.py.
+"""Questions about names and serial numbers, for tests/questions/certificates.py.
 
 A name is read here by the rules of X.690 8.1, 9.1 and 10.1, and then compared with X.501 9.2 (Name, a SEQUENCE OF SET OF
 SEQUENCE of a type and a value), and with RFC 6487 4.4 for inspection: one commonName, at most one serialNumber, nothing

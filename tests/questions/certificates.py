@@ -1,23 +1,30 @@
-"""Questions about certificates, their parts and revocation lists, for tests/questions/objects_cases.py.
+#!/usr/bin/env python3
+"""Questions about certificates, their parts and revocation lists: tests/questions/certificates.py PROGRAM
 
-Each topic has a function of its own here and a module in crates/certs_cases. The answers come from the rules as this script has
-them in its own words, and from examples. Revocation lists are read by the grammar in Python's words, over the reader of X.690 in
-certs_signed_cases.py, and put together octet by octet; the worked cases have their answers by hand. Certificates as a whole are
-asked behind the word `cert` (certs_roles.py), and answered by crates/certs_roles.
+Here stand those about URIs, keys and extensions that name URIs; the topics of the imports below have the others. The answers
+come from the rules as these scripts have them in their own words, and from examples. Revocation lists are read by the grammar in
+Python's words, over the reader of X.690 in certificates_signed.py, and put together octet by octet; the worked cases have their
+answers by hand.
 """
 
 import hashlib
 import itertools
+import pathlib
 import random
 import re
+import sys
 
-from certs_name_cases import names, serials
-from certs_roles import roles
-from certs_signed_cases import signed
-from certs_time_cases import moments, validities
-from crls_entries_cases import entries
-from crls_lists_cases import lists
-from crls_made_cases import made
+sys.dont_write_bytecode = True
+sys.path.insert(0, str(pathlib.Path(__file__).resolve().parents[1] / "lib"))
+
+import asking  # noqa: E402
+from certificates_entries import entries  # noqa: E402
+from certificates_lists import lists  # noqa: E402
+from certificates_made import made  # noqa: E402
+from certificates_names import names, serials  # noqa: E402
+from certificates_roles import roles  # noqa: E402
+from certificates_signed import signed  # noqa: E402
+from certificates_times import moments, validities  # noqa: E402
 
 rng = random.Random(5781)
 
@@ -511,17 +518,13 @@ def accesses(q):
         q.ask(uri.decode(), "access", kind, "ber", (b"\x30\x81" + octets[1:]).hex())
 
 
-def certificates(q):
+def questions():
     """All of them."""
-    uris(q)
-    signed(q)
-    keys(q)
-    accesses(q)
-    names(q)
-    serials(q)
-    moments(q)
-    validities(q)
-    lists(q)
-    entries(q)
-    made(q)
-    roles(q)
+    q = asking.Questions("certificates")
+    for ask in (uris, signed, keys, accesses, names, serials, moments, validities, lists, entries, made, roles):
+        ask(q)
+    return q.rows
+
+
+if __name__ == "__main__":
+    asking.main(questions)
