@@ -8,50 +8,25 @@ import hashlib
 import ipaddress
 import random
 
-from certificates_parts import TEXTS
+from certificates_parts import ECDSA, RSA, SIGN, TEXTS
+from rpki_repositories import NULL, bits, integer, oid, seq, tlv
 
 rng = random.Random(6487)
 
 
-def tlv(tag, content):
-    size = len(content)
-    octets = size.to_bytes((size.bit_length() + 7) // 8, "big")
-    return bytes([tag, size] if size < 128 else [tag, 128 + len(octets), *octets]) + content
-
-
-def seq(*parts):
-    return tlv(0x30, b"".join(parts))
-
-
-def oid(text):
-    first, second, *others = (int(part) for part in text.split("."))
-    content = b""
-    for number in (40 * first + second, *others):
-        groups = [number & 127]
-        while number := number >> 7:
-            groups.insert(0, number & 127 | 128)
-        content += bytes(groups)
-    return tlv(6, content)
-
-
-def integer(number):
-    return tlv(2, number.to_bytes(number.bit_length() // 8 + 1, "big"))
-
-
-NULL, TRUE = tlv(5, b""), tlv(1, b"\xff")
-RSA_SHA256 = seq(oid("1.2.840.113549.1.1.11"), NULL)
+TRUE = tlv(1, b"\xff")
 
 
 def name(text):
     return seq(tlv(0x31, seq(oid("2.5.4.3"), tlv(19, text.encode()))))
 
 
-def rsa_key(bits):
-    return seq(seq(oid("1.2.840.113549.1.1.1"), NULL), tlv(3, b"\0" + bits))
+def rsa_key(octets):
+    return seq(RSA, bits(octets))
 
 
-def ec_key(bits):
-    return seq(seq(oid("1.2.840.10045.2.1"), oid("1.2.840.10045.3.1.7")), tlv(3, b"\0" + bits))
+def ec_key(octets):
+    return seq(ECDSA, bits(octets))
 
 
 def generalized(parts):
@@ -149,7 +124,7 @@ def tbs(fields):
     return seq(
         tlv(0xA0, integer(2)),
         integer(fields["serial"]),
-        RSA_SHA256,
+        SIGN,
         name(fields["issuer"]),
         seq(moment(fields["from"]), moment(fields["to"])),
         name(subject),
@@ -294,7 +269,7 @@ def cases():
 
 
 def certificate(message):
-    return seq(message, RSA_SHA256, tlv(3, b"\0" + hashlib.sha256(message).digest()))
+    return seq(message, SIGN, tlv(3, b"\0" + hashlib.sha256(message).digest()))
 
 
 def validated(q):

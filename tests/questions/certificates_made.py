@@ -8,11 +8,12 @@ import datetime
 import random
 
 import rpki_repositories as world
-from certificates_signed import tlv, value
-from certificates_entries import MODES, content, forms, moment, pair_words, recoded, serial_word
+from certificates_entries import content, forms, moment, pair_words, recoded, serial_word
 from certificates_lists import (
-    AKI, ALGORITHM, AUTHORITY, COMMON, CRL_NUMBER, ISSUER, KEY, NUMBER, PLAIN, crl, entry, extended, extension, fields_of, fields_told, integer, seq,
+    AKI, ALGORITHM, AUTHORITY, COMMON, CRL_NUMBER, ISSUER, KEY, NUMBER, PLAIN, crl, entry, extended, extension, fields_of, fields_told,
 )
+from certificates_x690 import MODES, value
+from rpki_repositories import integer, seq, tlv
 
 rng = random.Random(5280)
 

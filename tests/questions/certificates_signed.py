@@ -1,105 +1,18 @@
 """Questions about algorithms and signed data, for tests/questions/certificates.py.
 
-A value is read here by the rules of X.690 8.1 to 8.14, 9 and 10, and then compared with the grammar of RFC 5280 4.1.1.2,
-RFC 5652 10.1 and RFC 5754 2.
+What octets begin with is compared with the grammar of RFC 5280 4.1.1.2, RFC 5652 10.1 and RFC 5754 2.
 """
 
 import random
 
+from certificates_x690 import Refused, bits_of, content_of, identifier, need, parts_of, value
+from rpki_repositories import tlv
+
 rng = random.Random(4711)
-
-
-def tlv(tag, content):
-    size = len(content)
-    octets = size.to_bytes((size.bit_length() + 7) // 8, "big")
-    return bytes([tag, size] if size < 128 else [tag, 128 + len(octets), *octets]) + content
-
 
 RSA, SHA256_RSA, SHA256 = (
     bytes.fromhex(digits) for digits in ("2a864886f70d010101", "2a864886f70d01010b", "608648016503040201")
 )
-
-
-class Refused(Exception):
-    pass
-
-
-class Value:
-    def __init__(self, tag, parts, content, octets):
-        self.tag, self.parts, self.content, self.octets = tag, parts, content, octets
-
-
-def need(fact):
-    if not fact:
-        raise Refused
-
-
-def identifier(data):
-    """Tag, whether it is constructed, and what is behind it."""
-    need(data)
-    first, rest = data[0], data[1:]
-    number = first & 31
-    if number == 31:
-        number, count = 0, 0
-        while True:
-            need(rest and count < 3 and not (count == 0 and rest[0] == 0x80))
-            octet, rest, count = rest[0], rest[1:], count + 1
-            number = number << 7 | octet & 127
-            if octet < 128:
-                break
-        need(number >= 31)
-    tag = (first >> 6, number)
-    need(tag != (0, 0))
-    return tag, bool(first & 32), rest
-
-
-def length(data, mode):
-    """The length, None where it is indefinite, and what is behind it."""
-    need(data)
-    first, rest = data[0], data[1:]
-    if first < 128:
-        return first, rest
-    if first == 128:
-        return None, rest
-    count = first - 128
-    need(count <= 4 and len(rest) >= count)
-    size = int.from_bytes(rest[:count], "big")
-    need(mode == "ber" or (size >= 128 and rest[0] != 0))
-    return size, rest[count:]
-
-
-def value(data, mode):
-    """The value in front, and what is behind it."""
-    tag, constructed, rest = identifier(data)
-    size, rest = length(rest, mode)
-    parts = content = None
-    if size is None:
-        need(constructed and mode != "der")
-        parts = []
-        while rest[:2] != b"\0\0":
-            part, rest = value(rest, mode)
-            parts.append(part)
-        rest = rest[2:]
-    else:
-        need(len(rest) >= size and not (constructed and mode == "cer"))
-        content, rest = rest[:size], rest[size:]
-        if constructed:
-            parts, inner = [], content
-            while inner:
-                part, inner = value(inner, mode)
-                parts.append(part)
-            content = None
-    return Value(tag, parts, content, data[: len(data) - len(rest)]), rest
-
-
-def parts_of(item, number):
-    need(item.tag == (0, number) and item.parts is not None)
-    return item.parts
-
-
-def content_of(item, number):
-    need(item.tag == (0, number) and item.content is not None)
-    return item.content
 
 
 def has_null(item, kinds):
@@ -108,14 +21,6 @@ def has_null(item, kinds):
     need(1 <= len(parts) <= 2 and content_of(parts[0], 6) in kinds)
     need(len(parts) == 1 or content_of(parts[1], 5) == b"")
     return len(parts) == 2
-
-
-def bits_of(item, mode):
-    content = content_of(item, 3)
-    need(content and content[0] <= 7 and (len(content) > 1 or content[0] == 0))
-    need(mode == "ber" or len(content) == 1 or content[-1] % 2 ** content[0] == 0)
-    need(mode != "cer" or len(content) <= 1000)
-    return content
 
 
 def around(tag, content, mode):
