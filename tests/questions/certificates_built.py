@@ -1,4 +1,4 @@
-"""Questions about certificates that are built, for tests/questions/certs_roles.py.
+"""Questions about certificates that are built, for tests/questions/certificates_roles.py.
 
 What is written is spelled here by X.690 8 and 10 from the fields, line by line as RFC 5280 4.1 and 4.2, RFC 6487 4 and RFC 3779
 have them; a signature is the SHA-256 digest of what is signed.
@@ -8,50 +8,25 @@ import hashlib
 import ipaddress
 import random
 
-from certs_parts import TEXTS
+from certificates_parts import ECDSA, RSA, SIGN, TEXTS
+from rpki_repositories import NULL, bits, integer, oid, seq, tlv
 
 rng = random.Random(6487)
 
 
-def tlv(tag, content):
-    size = len(content)
-    octets = size.to_bytes((size.bit_length() + 7) // 8, "big")
-    return bytes([tag, size] if size < 128 else [tag, 128 + len(octets), *octets]) + content
-
-
-def seq(*parts):
-    return tlv(0x30, b"".join(parts))
-
-
-def oid(text):
-    first, second, *others = (int(part) for part in text.split("."))
-    content = b""
-    for number in (40 * first + second, *others):
-        groups = [number & 127]
-        while number := number >> 7:
-            groups.insert(0, number & 127 | 128)
-        content += bytes(groups)
-    return tlv(6, content)
-
-
-def integer(number):
-    return tlv(2, number.to_bytes(number.bit_length() // 8 + 1, "big"))
-
-
-NULL, TRUE = tlv(5, b""), tlv(1, b"\xff")
-RSA_SHA256 = seq(oid("1.2.840.113549.1.1.11"), NULL)
+TRUE = tlv(1, b"\xff")
 
 
 def name(text):
     return seq(tlv(0x31, seq(oid("2.5.4.3"), tlv(19, text.encode()))))
 
 
-def rsa_key(bits):
-    return seq(seq(oid("1.2.840.113549.1.1.1"), NULL), tlv(3, b"\0" + bits))
+def rsa_key(octets):
+    return seq(RSA, bits(octets))
 
 
-def ec_key(bits):
-    return seq(seq(oid("1.2.840.10045.2.1"), oid("1.2.840.10045.3.1.7")), tlv(3, b"\0" + bits))
+def ec_key(octets):
+    return seq(ECDSA, bits(octets))
 
 
 def generalized(parts):
@@ -149,7 +124,7 @@ def tbs(fields):
     return seq(
         tlv(0xA0, integer(2)),
         integer(fields["serial"]),
-        RSA_SHA256,
+        SIGN,
         name(fields["issuer"]),
         seq(moment(fields["from"]), moment(fields["to"])),
         name(subject),
@@ -276,29 +251,29 @@ def changed(fields, key, value):
 
 
 def cases():
-    """Fields, and what they are about."""
-    yield ANCHOR, "anchor"
+    """Fields, and which one alone is another than the anchor's, if it is one."""
+    yield ANCHOR, None
     for key, values in OTHERS.items():
         for value in values:
             yield changed(ANCHOR, key, value), key
     none = ANCHOR
     for key in ("v4", "v6", "asn", "repository", "manifest", "ca"):
         none = changed(none, key, None)
-        yield none, f"none to {key}"
-    for number in range(60):
+        yield none, None
+    for _ in range(60):
         made = ANCHOR
         for key, values in OTHERS.items():
             if rng.random() < 0.5:
                 made = changed(made, key, rng.choice(values))
-        yield made, f"chance {number // 3}"
+        yield made, None
 
 
 def certificate(message):
-    return seq(message, RSA_SHA256, tlv(3, b"\0" + hashlib.sha256(message).digest()))
+    return seq(message, SIGN, tlv(3, b"\0" + hashlib.sha256(message).digest()))
 
 
-def validated():
-    """The anchor as it is written, read and validated, as `certs_roles` is asked (RFC 6487 7.2, RFC 8630 2.3)."""
+def validated(q):
+    """The anchor as it is written, read and validated (RFC 6487 7.2, RFC 8630 2.3)."""
     everything = "holds [0.0.0.0/0] [::/0] [AS0-AS4294967295] t 1"
     inside = changed(ANCHOR, "manifest", ANCHOR["repository"] + "/q/mft.mft")
     beside = changed(ANCHOR, "manifest", "rsync://example.com/m/q/mft.mft")
@@ -314,35 +289,31 @@ def validated():
         (changed(ANCHOR, "authority", bytes(20)), "20260101000000Z", f"{TEXTS['AuthorityKeyMismatch']} 12 0"),
         (changed(ANCHOR, "v4", "inherit"), "20260101000000Z", "inherited IPv4 addresses 12 0"),
     ]
-    for number, (fields, moment, answer) in enumerate(rows):
-        octets = certificate(tbs(fields)).hex()
-        yield ["anchor", "validate_ta_at", "strict", moment, "good", octets], answer, ("built", number)
+    for fields, moment, answer in rows:
+        q.ask(answer, "anchor", "validate_ta_at", "strict", moment, "good", certificate(tbs(fields)).hex())
 
 
-def questions():
-    """Words, the answer, and what is asked that no other question before asks."""
-    for fields, about in cases():
+def built(q):
+    """Asks all questions."""
+    for fields, key in cases():
         asked, message = words(fields), "x" + tbs(fields).hex()
         some = any(fields.get(key) is not None for key in ("v4", "v6", "asn"))
-        yield ["der", *asked], message, ("der", about) if about in OTHERS else None
-        yield ["copy", *asked], message, ("copy", about) if about in ("v4", "v6", "asn", "router", "notify", "anchor") else None
-        yield ["ber", *asked], message, ("ber", about) if about in OTHERS else None
-        yield ["cer", *asked], "no form in CER", ["cer"]
-        if about in ("v4", "v6", "asn") and isinstance(fields.get(about), list):
+        for kind in ("der", "copy", "ber"):
+            q.ask(message, "built", kind, *asked)
+        q.ask("no form in CER", "built", "cer", *asked)
+        if key in ("v4", "v6", "asn") and isinstance(fields.get(key), list):
             for way in ("pushed", "listed"):
-                yield ["der", *words(fields, way)], message, (way, about, len(fields[about]))
+                q.ask(message, "built", "der", *words(fields, way))
         # Set over fields that are all others, and over these by the others.
         if "subject" in fields:
-            yield ["der", *words(ROUTER), *over(fields)], message, ("set", about)
-            router = "x" + tbs(ROUTER).hex()
-            yield ["der", *asked, *over(ROUTER)], router, ("set", "from", about) if about in OTHERS else None
-        each = str(asked) if about in OTHERS else about
-        signed = "x" + certificate(tbs(fields)).hex() + (" true" if some else " unread")
-        yield ["sign", *asked], signed, ("sign", each)
+            q.ask(message, "built", "der", *words(ROUTER), *over(fields))
+            q.ask("x" + tbs(ROUTER).hex(), "built", "der", *asked, *over(ROUTER))
+        q.ask("x" + certificate(tbs(fields)).hex() + (" true" if some else " unread"), "built", "sign", *asked)
     asked = words(ANCHOR)
-    yield ["refuse", *asked], "key not found", ["refuse"]
+    q.ask("key not found", "built", "refuse", *asked)
     # A name that is kept in BER has no DER that is known: a SEQUENCE of indefinite length.
     issuer = name(ANCHOR["issuer"])
     kept = "issuer-ber=" + (b"\x30\x80" + issuer[2:] + b"\0\0").hex()
-    yield ["der", *asked, kept], "no form in CER", ("der", "kept in BER")
-    yield ["sign", *asked, kept], "a value that is too long", ("sign", "kept in BER")
+    q.ask("no form in CER", "built", "der", *asked, kept)
+    q.ask("a value that is too long", "built", "sign", *asked, kept)
+    validated(q)

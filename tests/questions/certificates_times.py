@@ -1,4 +1,4 @@
-"""Questions about moments and validity, for tests/questions/certs_cases.py.
+"""Questions about moments and validity, for tests/questions/certificates.py.
 
 A moment is a UTCTime (X.680 47) `YYMMDDHHMMSSZ` of the years 1950 to 2049, or a GeneralizedTime (X.680 46)
 `YYYYMMDDHHMMSSZ`, a real date of the proleptic Gregorian calendar with hours to 23, minutes and seconds to 59 (RFC 5280
@@ -9,7 +9,8 @@ import datetime
 import itertools
 import random
 
-from certs_name_cases import MODES, Reader, Refused, need, tlv, within
+from certificates_x690 import MODES, Refused, need, parts_of, value
+from rpki_repositories import tlv
 
 rng = random.Random(1950)
 UTC, GENERAL = 23, 24
@@ -23,10 +24,10 @@ def is_real(text):
     return 1 <= month <= 12 and 1 <= day <= days and hour < 24 and minute < 60 and second < 60
 
 
-def moment_of(value, only_general=False):
+def moment_of(item, only_general=False):
     """The text YYYYMMDDHHMMSSZ of a value."""
-    tag, built, content = value
-    need(not built)
+    tag, content = item.tag, item.content
+    need(content is not None)
     need(tag == (0, GENERAL) or (tag == (0, UTC) and not only_general))
     digits = content[:-1]
     need(content[-1:] == b"Z" and len(digits) == (14 if tag == (0, GENERAL) else 12))
@@ -48,7 +49,7 @@ def seq_in(mode, content):
 
 def told(mode, octets):
     try:
-        text = moment_of(Reader(mode, octets).value())
+        text = moment_of(value(octets, mode)[0])
     except Refused:
         return "refused: content"
     return f"{text} {varied(text).hex()} {tlv(GENERAL, text.encode()).hex()}"
@@ -56,16 +57,16 @@ def told(mode, octets):
 
 def told_general(mode, octets):
     try:
-        return moment_of(Reader(mode, octets).value(), True)
+        return moment_of(value(octets, mode)[0], True)
     except Refused:
         return "refused: content"
 
 
 def told_validity(mode, octets):
     try:
-        values = within(Reader(mode, octets).value(), 16)
-        need(len(values) == 2)
-        first, last = (moment_of(value) for value in values)
+        parts = parts_of(value(octets, mode)[0], 16)
+        need(len(parts) == 2)
+        first, last = map(moment_of, parts)
     except Refused:
         return "refused: content"
     return f"{first} {last} {seq_in(mode, varied(first) + varied(last)).hex()}"

@@ -1,10 +1,12 @@
-"""Questions about revocation lists and stores of them, for tests/questions/certs_cases.py (RFC 5280 5.1, RFC 6487 5)."""
+"""Questions about revocation lists and stores of them, for tests/questions/certificates.py (RFC 5280 5.1, RFC 6487 5)."""
 
 import calendar
 import random
 import re
 
-from certs_signed_cases import SHA256_RSA, RSA, Refused, bits_of, content_of, has_null, need, parts_of, tlv, value
+from certificates_signed import RSA, SHA256_RSA, has_null
+from certificates_x690 import Refused, bits_of, content_of, need, parts_of, value
+from rpki_repositories import integer, seq, tlv
 
 rng = random.Random(6487)
 
@@ -12,14 +14,6 @@ AUTHORITY, NUMBER, COMMON = (bytes.fromhex(digits) for digits in ("551d23", "551
 OTHER = bytes.fromhex("551d15")
 KEY = bytes(range(1, 21))
 THIS, NEXT = tlv(23, b"261123000000Z"), tlv(23, b"261124000000Z")
-
-
-def seq(*parts):
-    return tlv(0x30, b"".join(parts))
-
-
-def integer(n):
-    return tlv(2, n.to_bytes(n.bit_length() // 8 + 1, "big"))
 
 
 def serial_of(item):

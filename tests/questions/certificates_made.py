@@ -1,4 +1,4 @@
-"""Questions about revocation lists that are built, cloned, read from within others or refused, for tests/questions/certs_cases.py.
+"""Questions about revocation lists that are built, cloned, read from within others or refused, for tests/questions/certificates.py.
 
 Lists are put together here from DER by hand, field by field (RFC 5280 5.1, RFC 6487 5). Where Python's `cryptography` is
 there, it reads each list that is built, and has to find the same fields.
@@ -8,11 +8,12 @@ import datetime
 import random
 
 import rpki_repositories as world
-from certs_signed_cases import tlv, value
-from crls_entries_cases import MODES, content, forms, moment, pair_words, recoded, serial_word
-from crls_lists_cases import (
-    AKI, ALGORITHM, AUTHORITY, COMMON, CRL_NUMBER, ISSUER, KEY, NUMBER, PLAIN, crl, entry, extended, extension, fields_of, fields_told, integer, seq,
+from certificates_entries import content, forms, moment, pair_words, recoded, serial_word
+from certificates_lists import (
+    AKI, ALGORITHM, AUTHORITY, COMMON, CRL_NUMBER, ISSUER, KEY, NUMBER, PLAIN, crl, entry, extended, extension, fields_of, fields_told,
 )
+from certificates_x690 import MODES, value
+from rpki_repositories import integer, seq, tlv
 
 rng = random.Random(5280)
 

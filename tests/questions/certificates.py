@@ -1,31 +1,34 @@
-"""Questions about certificates, their parts and revocation lists, for tests/questions/objects_cases.py.
+#!/usr/bin/env python3
+"""Questions about certificates, their parts and revocation lists: tests/questions/certificates.py PROGRAM
 
-Each topic has a function of its own here and a module in crates/certs_cases. The answers come from the rules as this script has
-them in its own words, and from examples. Revocation lists are read by the grammar in Python's words, over the reader of X.690 in
-certs_signed_cases.py, and put together octet by octet; the worked cases have their answers by hand. Certificates as a whole are
-asked behind the word `cert` (certs_roles.py), and answered by crates/certs_roles.
+Here stand those about URIs, keys and extensions that name URIs; the topics of the imports below have the others. The answers
+come from the rules as these scripts have them in their own words, and from examples. Revocation lists are read by the grammar in
+Python's words, over the reader of X.690 in certificates_x690.py, and put together octet by octet; the worked cases have their
+answers by hand.
 """
 
 import hashlib
 import itertools
+import pathlib
 import random
 import re
+import sys
 
-from certs_name_cases import names, serials
-from certs_roles import roles
-from certs_signed_cases import signed
-from certs_time_cases import moments, validities
-from crls_entries_cases import entries
-from crls_lists_cases import lists
-from crls_made_cases import made
+sys.dont_write_bytecode = True
+sys.path.insert(0, str(pathlib.Path(__file__).resolve().parents[1] / "lib"))
+
+import asking  # noqa: E402
+from certificates_entries import entries  # noqa: E402
+from certificates_lists import lists  # noqa: E402
+from certificates_made import made  # noqa: E402
+from certificates_names import names, serials  # noqa: E402
+from certificates_roles import roles  # noqa: E402
+from certificates_signed import signed  # noqa: E402
+from certificates_times import moments, validities  # noqa: E402
+from certificates_x690 import MODES, Refused, bits_of, content_of, need, parts_of, value  # noqa: E402
+from rpki_repositories import NULL, bits, seq, tlv  # noqa: E402
 
 rng = random.Random(5781)
-
-
-def tlv(tag, content):
-    size = len(content)
-    octets = size.to_bytes((size.bit_length() + 7) // 8, "big")
-    return bytes([tag, size] if size < 128 else [tag, 128 + len(octets), *octets]) + content
 
 
 # URIs. A text is octets; a host is any octets 21 to 7E but a slash, at least one.
@@ -153,10 +156,10 @@ def sames(q, rsync):
 def general_names(q, rsync, https):
     long = [b"rsync://h/m/" + b"x" * (size - 12) for size in (127, 128, 255, 256, 999, 1000, 1001, 2000, 2001)]
     for text in [*rsync[:12], *long]:
-        for mode in ("ber", "cer", "der"):
+        for mode in MODES:
             q.ask(general_name(mode, text).hex(), "uri", "rsync", "name", mode, word(text))
     for text in [*https[:6], b"https://h/" + b"y" * 1500]:
-        for mode in ("ber", "cer", "der"):
+        for mode in MODES:
             q.ask(general_name(mode, text).hex(), "uri", "https", "name", mode, word(text))
     # RFC 5280 4.2.1.6: tag [6], primitive.
     q.ask("860b7273796e633a2f2f682f6d", "uri", "rsync", "name", "der", "rsync://h/m")
@@ -169,103 +172,29 @@ def orders(q, rsync, https):
             q.ask(f"{order} {'true' if one == other else 'false'}", "uri", scheme, "order", word(one), word(other))
 
 
-# Keys (RFC 5280 4.1.2.7, RFC 7935 3, RFC 8608 3.1). Octets are read by a parser of this script's own.
+# Keys (RFC 5280 4.1.2.7, RFC 7935 3, RFC 8608 3.1).
 
 RSA = bytes.fromhex("2a864886f70d010101")
 EC = bytes.fromhex("2a8648ce3d0201")
 CURVE = bytes.fromhex("2a8648ce3d030107")
 
 
-class Bad(Exception):
-    """The octets are none of the grammar."""
-
-
-def header(mode, text, at):
-    """Identifier octet, whether constructed, where the content begins, its length or None, X.690 8.1.2, 8.1.3."""
-    if at >= len(text):
-        raise Bad
-    tag = text[at]
-    at += 1
-    if tag & 31 == 31:  # no question here has a high tag that is wanted
-        raise Bad
-    if at >= len(text):
-        raise Bad
-    first = text[at]
-    at += 1
-    built = bool(tag & 32)
-    if first < 128:
-        size = first
-    elif first == 128:
-        if not built or mode == "der":
-            raise Bad
-        return tag, built, at, None
-    else:
-        count = first - 128
-        if count > 4 or at + count > len(text):
-            raise Bad
-        size = int.from_bytes(text[at : at + count], "big")
-        if mode != "ber" and (size < 128 or size < 256 ** (count - 1)):
-            raise Bad
-        at += count
-    if built and mode == "cer":
-        raise Bad
-    if at + size > len(text):
-        raise Bad
-    return tag, built, at, size
-
-
-def value(mode, text, at, end):
-    """The value at a place before the end, as (tag, octets or values), and where it ends."""
-    tag, built, at, size = header(mode, text[:end], at)
-    if not built:
-        return (tag, text[at : at + size]), at + size
-    inner = []
-    if size is None:
-        while text[at : at + 2] != b"\0\0":
-            one, at = value(mode, text, at, end)
-            inner.append(one)
-        return (tag, inner), at + 2
-    stop = at + size
-    while at < stop:
-        one, at = value(mode, text, at, stop)
-        if one[0] == 0:
-            raise Bad
-        inner.append(one)
-    return (tag, inner), stop
-
-
-def is_format(tree):
-    tag, inner = tree
-    if tag != 0x30 or not inner or inner[0][0] != 0x06:
-        raise Bad
-    kind = inner[0][1]
-    if kind == RSA and (inner[1:] == [] or inner[1:] == [(0x05, b"")]):
+def format_of(item):
+    parts = parts_of(item, 16)
+    need(parts)
+    kind, behind = content_of(parts[0], 6), [(part.tag, part.content) for part in parts[1:]]
+    if kind == RSA and behind in ([], [((0, 5), b"")]):
         return "Rsa"
-    if kind == EC and inner[1:] == [(0x06, CURVE)]:
-        return "Ecdsa"
-    raise Bad
-
-
-def read_bits(mode, tree):
-    tag, content = tree
-    if tag != 0x03 or not content:
-        raise Bad
-    unused, octets = content[0], content[1:]
-    if unused > 7 or (unused and not octets):
-        raise Bad
-    if mode != "ber" and octets and octets[-1] % 2**unused:
-        raise Bad
-    if mode == "cer" and len(content) > 1000:
-        raise Bad
-    return unused, octets
+    need(kind == EC and behind == [((0, 6), CURVE)])
+    return "Ecdsa"
 
 
 def read_key(mode, text):
     """The format, the count of unused bits and the octets of the key in front."""
-    (tag, inner), _ = value(mode, text, 0, len(text))
-    if tag != 0x30 or len(inner) != 2:
-        raise Bad
-    return (is_format(inner[0]), *read_bits(mode, inner[1]))
+    parts = parts_of(value(text, mode)[0], 16)
+    need(len(parts) == 2)
+    kind, content = format_of(parts[0]), bits_of(parts[1], mode)
+    return kind, content[0], content[1:]
 
 
 def cleared(unused, octets):
@@ -273,11 +202,11 @@ def cleared(unused, octets):
 
 
 def format_der(kind):
-    return tlv(0x30, tlv(0x06, RSA) + tlv(0x05, b"")) if kind == "Rsa" else tlv(0x30, tlv(0x06, EC) + tlv(0x06, CURVE))
+    return seq(tlv(0x06, RSA), NULL) if kind == "Rsa" else seq(tlv(0x06, EC), tlv(0x06, CURVE))
 
 
 def key_der(kind, unused, octets):
-    return tlv(0x30, format_der(kind) + tlv(0x03, bytes([unused]) + cleared(unused, octets)))
+    return seq(format_der(kind), bits(cleared(unused, octets), unused))
 
 
 def key_shown(key):
@@ -299,12 +228,12 @@ def key_written(mode, key):
         return key_der(*key).hex()
     padded = octets if mode == "ber" else cleared(unused, octets)
     if mode == "ber":
-        return tlv(0x30, format_der(kind) + tlv(0x03, bytes([unused]) + padded)).hex()
+        return seq(format_der(kind), bits(padded, unused)).hex()
     if len(octets) >= 1000:
         return "refused: no form in CER"
     inside = format_der(kind)[2:]
     wrap = lambda content: b"\x30\x80" + content + b"\0\0"
-    return wrap(wrap(inside) + tlv(0x03, bytes([unused]) + padded)).hex()
+    return wrap(wrap(inside) + bits(padded, unused)).hex()
 
 
 def point():
@@ -337,12 +266,10 @@ def rsa_bits(size):
 
 
 def key_texts():
-    null, curve = tlv(0x05, b""), tlv(0x06, CURVE)
-    bits = lambda octets, unused=0: tlv(0x03, bytes([unused]) + octets)
+    null, curve = NULL, tlv(0x06, CURVE)
     small = bits(b"\x01\x02")
     rsa, ec = tlv(0x06, RSA), tlv(0x06, EC)
-    alg = lambda *parts: tlv(0x30, b"".join(parts))
-    key = lambda *parts: tlv(0x30, b"".join(parts))
+    alg = key = seq
     good = [
         key(alg(rsa, null), bits(rsa_bits(2048))), key(alg(rsa, null), bits(rsa_bits(1024))), key(alg(rsa), bits(rsa_bits(2048))),
         key(alg(ec, curve), bits(point())), key(alg(ec, curve), bits(point())),
@@ -386,11 +313,11 @@ def keys(q):
         for at in range(len(text)):
             for other in (0x00, 0x01, 0x03, 0x04, 0x05, 0x06, 0x30, 0x31, 0x80, 0xFF):
                 texts.append(text[:at] + bytes([other]) + text[at + 1 :])
-    for mode, text in itertools.product(("der", "ber", "cer"), texts):
+    for mode, text in itertools.product(MODES, texts):
         try:
             key = read_key(mode, text)
             answer = key_shown(key)
-        except Bad:
+        except Refused:
             key, answer = None, "refused: content"
         assert not (mode == "der" and text in bad and key) and not (mode == "der" and text in good and not key)
         long = len(text) > 2000
@@ -399,7 +326,7 @@ def keys(q):
         if mode == "der" and not long:
             q.ask(answer, "key", "decode", text.hex())
         if mode == "ber" and key and not long:
-            for to in ("der", "ber", "cer"):
+            for to in MODES:
                 q.ask(key_written(to, key), "key", "write", to, text.hex())
             q.ask(answer, "key", "clone", text.hex())
             q.ask(key_name(key).hex(), "key", "name", text.hex())
@@ -415,7 +342,7 @@ def identifiers(q):
     for octets in [*twenty, b"", b"\0", bytes(19), bytes(21), bytes(40)]:
         long = len(octets) == 20
         q.ask(octets.hex() if long else "refused: no identifier", "key", "identifier", "slice", octets.hex())
-        for mode in ("der", "ber", "cer"):
+        for mode in MODES:
             q.ask(octets.hex() if long else "refused: content", "key", "identifier", "read", mode, tlv(0x04, octets).hex())
             q.ask(octets.hex() if long else "refused: content", "key", "identifier", "tagged", mode, tlv(0x80, octets).hex())
             for tag in (0x03, 0x05, 0x0C, 0x24, 0x30, 0x80, 0x84, 0xA0):
@@ -423,7 +350,7 @@ def identifiers(q):
             for tag in (0x04, 0x81, 0x40, 0xC0):
                 q.ask("refused: content", "key", "identifier", "tagged", mode, tlv(tag, octets).hex())
         if long:
-            for mode in ("der", "ber", "cer"):
+            for mode in MODES:
                 q.ask(f"{tlv(0x04, octets).hex()} {tlv(0x80, octets).hex()}", "key", "identifier", "write", mode, tlv(0x04, octets).hex())
     # In segments, which BER has at will (X.690 8.7.3), and CER of more than 1000 octets alone (9.2).
     octets = twenty[0]
@@ -431,10 +358,10 @@ def identifiers(q):
         pieces = tlv(0x04, octets[:cut]) + tlv(0x04, octets[cut:])
         for head, name in ((0x24, "read"), (0xA0, "tagged")):
             for text in (tlv(head, pieces), bytes([head, 0x80]) + pieces + b"\0\0", tlv(head, tlv(0x24, pieces))):
-                for mode in ("der", "ber", "cer"):
+                for mode in MODES:
                     q.ask(octets.hex() if mode == "ber" else "refused: content", "key", "identifier", name, mode, text.hex())
     for at in range(22):
-        for mode in ("der", "ber", "cer"):
+        for mode in MODES:
             q.ask("refused: content", "key", "identifier", "read", mode, tlv(0x04, octets)[:at].hex())
     for one, other in itertools.product(twenty, repeat=2):
         order = "Less" if one < other else "Greater" if one > other else "Equal"
@@ -442,10 +369,6 @@ def identifiers(q):
 # Extensions that name URIs (RFC 6487 4.8.6, 4.8.7), as octets.
 
 CA_ISSUERS = bytes.fromhex("06082b06010505073002")
-
-
-def seq(*parts):
-    return tlv(0x30, b"".join(parts))
 
 
 def crl_points(*names):
@@ -511,17 +434,13 @@ def accesses(q):
         q.ask(uri.decode(), "access", kind, "ber", (b"\x30\x81" + octets[1:]).hex())
 
 
-def certificates(q):
+def questions():
     """All of them."""
-    uris(q)
-    signed(q)
-    keys(q)
-    accesses(q)
-    names(q)
-    serials(q)
-    moments(q)
-    validities(q)
-    lists(q)
-    entries(q)
-    made(q)
-    roles(q)
+    q = asking.Questions("certificates")
+    for ask in (uris, signed, keys, accesses, names, serials, moments, validities, lists, entries, made, roles):
+        ask(q)
+    return q.rows
+
+
+if __name__ == "__main__":
+    asking.main(questions)

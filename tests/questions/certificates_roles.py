@@ -1,39 +1,27 @@
 #!/usr/bin/env python3
-"""Asks about certificates in their roles, and about certificates that are built.
+"""Questions about certificates in their roles, and about certificates that are built, for tests/questions/certificates.py.
 
-    certs_roles.py --all PROGRAM     asks the built program all questions, and prints those that it answers otherwise
+    certificates_roles.py --all PROGRAM     asks these alone
 
-certs_cases.py has those that are stored, behind the word `cert`, which crates/certs_roles answers.
-
-A certificate is made of named parts (certs_parts.py), of which one or two are then others. What must be told of it is known from
-the parts; which test fails first, from the order of tests that the profile's reader documents: this script reads no certificate.
-`certs_built_cases.py` has the questions about built ones.
-
-Of all questions those are stored that are the first, in their order, about something: a row of the table of tests, two rows
-that stand one after the other, a fault of an extension, a field, a moment, a claim. What a question is about is told where it is
-asked; many are about nothing of their own.
+A certificate is made of named parts (certificates_parts.py), of which one or two are then others. What must be told of it is
+known from the parts; which test fails first, from the order of tests that the profile's reader documents: this script reads no
+certificate. Those about built ones come from certificates_built.py.
 """
 
 import datetime
 import itertools
 import pathlib
-import subprocess
 import sys
 
 sys.dont_write_bytecode = True
 sys.path.insert(0, str(pathlib.Path(__file__).resolve().parents[1] / "lib"))
 
-import certs_built_cases as built  # noqa: E402
+import asking  # noqa: E402
 import rpki_repositories as world  # noqa: E402
-from certs_parts import ALL, APART, FAILS, FIRST, HOST, LAST, MOMENT, OTHER_KEY, ROUTER, RSA, SIGN_BARE, TESTS, TEXTS  # noqa: E402
-from certs_parts import claims, made, name, places, sets  # noqa: E402
+from certificates_built import built  # noqa: E402
+from certificates_parts import ALL, APART, FAILS, FIRST, HOST, LAST, MOMENT, OTHER_KEY, ROUTER, RSA, SIGN_BARE, TESTS, TEXTS  # noqa: E402
+from certificates_parts import claims, made, name, places, sets  # noqa: E402
 from rpki_repositories import NULL, bits, integer, oid, seq, tlv  # noqa: E402
-
-QUESTIONS, BUILT = [], []
-
-
-def ask(answer, *words, about=None):
-    QUESTIONS.append(("\t".join(words), answer, about))
 
 
 def copy_told(parts):
@@ -43,24 +31,22 @@ def copy_told(parts):
 # Inspection: the tests of each role in their order.
 
 
-def inspections():
+def inspections(q):
     for role, tests in TESTS.items():
         for strict in ("strict", "relaxed"):
-            ask("ok", "inspect", role, strict, made(role).octets(), about=("good", role, strict))
+            q.ask("ok", "inspect", role, strict, made(role).octets())
         for test in tests:
-            ask(test, "inspect", role, "strict", made(role, FAILS[test]).octets(), about=("row", role, test))
-            ask(test, "inspect", role, "relaxed", made(role, FAILS[test]).octets())
-            ask(TEXTS[test], "inspect", role, "strict", made(role, FAILS[test]).octets(), "text", about=("text", test))
+            q.ask(test, "inspect", role, "strict", made(role, FAILS[test]).octets())
+            q.ask(test, "inspect", role, "relaxed", made(role, FAILS[test]).octets())
+            q.ask(TEXTS[test], "inspect", role, "strict", made(role, FAILS[test]).octets(), "text")
         pairs = [pair for pair in itertools.combinations(tests, 2) if set(pair) not in APART]
-        following = dict(reversed(pairs))
         for one, other in pairs:
-            about = ("rows", one, other) if following[one] == other else None
-            ask(one, "inspect", role, "relaxed", made(role, FAILS[one], FAILS[other]).octets(), about=about)
+            q.ask(one, "inspect", role, "relaxed", made(role, FAILS[one], FAILS[other]).octets())
         for another in TESTS:
             if another != role:
                 test = first_failing(role, another)
-                ask(test, "inspect", another, "relaxed", made(role).octets(), about=("as another", another, test))
-        names(role)
+                q.ask(test, "inspect", another, "relaxed", made(role).octets())
+        names(q, role)
 
 
 def first_failing(role, asked):
@@ -83,7 +69,7 @@ def first_failing(role, asked):
     }[role, asked]
 
 
-def names(role):
+def names(q, role):
     """Names that are of the profile, those that only relaxed inspection takes, and others (RFC 6487 4.4, RFC 8209 3.1.1)."""
     common = seq(oid("2.5.4.3"), tlv(0x13, b"one"))
     number = seq(oid("2.5.4.5"), tlv(0x13, b"7"))
@@ -98,15 +84,12 @@ def names(role):
     }
     for how, listed in rows.items():
         for (number, octets), strict in itertools.product(enumerate(listed), ("strict", "relaxed")):
-            # Names by themselves are asked by certs_cases.py.
-            about = how, strict if how == "relaxed" else ""
             is_good = how == "good" or how == "relaxed" and strict == "relaxed"
             answer = "ok" if is_good else "BadIssuer"
-            ask(answer, "inspect", role, strict, made(role, sets(issuer=octets)).octets(), about=("issuer", *about))
+            q.ask(answer, "inspect", role, strict, made(role, sets(issuer=octets)).octets())
             is_good = is_good or how == "relaxed" and role == "router"
             answer = "ok" if is_good else "BadSubject"
-            about = "subject", role == "router", *about
-            ask(answer, "inspect", role, strict, made(role, sets(subject=octets)).octets(), about=about)
+            q.ask(answer, "inspect", role, strict, made(role, sets(subject=octets)).octets())
 
 
 # Reading: what is told of each field, and the first fault of a list of extensions.
@@ -174,44 +157,44 @@ def whole(role):
     return parts
 
 
-def reads(parts, fault=None, about=None):
-    ask(f"refused: {fault}" if fault else parts.whole(), "read", "told", parts.octets(), about=about)
+def reads(q, parts, fault=None):
+    q.ask(f"refused: {fault}" if fault else parts.whole(), "read", "told", parts.octets())
 
 
-# Faults of one extension of a list: how, what it becomes, the fault that is told, and whether each extension is stored so.
+# Faults of one extension of a list: how, what it becomes, and the fault that is told.
 FAULTS = [
-    ("doubled", lambda octets: [octets, octets], "duplicate extension", True),
-    ("criticality", lambda octets: [critical(octets)], "criticality of an extension", True),
-    ("cut", lambda octets: [revalued(lambda value: value[:-1])(octets)], "invalid value of an extension", True),
-    ("empty", lambda octets: [revalued(lambda value: b"")(octets)], "invalid value of an extension", False),
-    ("after another", lambda octets: [revalued(lambda value: NULL + value)(octets)], "invalid value of an extension", False),
+    ("doubled", lambda octets: [octets, octets], "duplicate extension"),
+    ("criticality", lambda octets: [critical(octets)], "criticality of an extension"),
+    ("cut", lambda octets: [revalued(lambda value: value[:-1])(octets)], "invalid value of an extension"),
+    ("empty", lambda octets: [revalued(lambda value: b"")(octets)], "invalid value of an extension"),
+    ("after another", lambda octets: [revalued(lambda value: NULL + value)(octets)], "invalid value of an extension"),
     # What stands after the value isn't read.
-    ("followed", lambda octets: [revalued(lambda value: value + NULL)(octets)], None, True),
-    ("after unknown critical", lambda octets: [unknown(True), octets], "unknown critical extension", False),
-    ("after unknown", lambda octets: [unknown(False, b"\xff\xff"), octets], None, False),
+    ("followed", lambda octets: [revalued(lambda value: value + NULL)(octets)], None),
+    ("after unknown critical", lambda octets: [unknown(True), octets], "unknown critical extension"),
+    ("after unknown", lambda octets: [unknown(False, b"\xff\xff"), octets], None),
 ]
 
 
-def faults():
+def faults(q):
     for role in TESTS:
-        reads(made(role), about=("read", role))
-        reads(whole(role), about=("read whole", role))
+        reads(q, made(role))
+        reads(q, whole(role))
     for kind, _ in whole("ca").extensions():
         left, missing = whole("ca"), LEFT_OUT[kind]
         if isinstance(missing, str):
             left.swap = at(kind, lambda octets: [])
-            reads(left, missing, about=("left out", kind))
+            reads(q, left, missing)
         else:
             missing(left)
-            reads(left, about=("left out", kind))
-        for how, change, fault, each in FAULTS:
+            reads(q, left)
+        for how, change, fault in FAULTS:
             # Resources may be critical or not (RFC 8360 4.2 in the place of RFC 6487 4.8.10).
             fault = None if how == "criticality" and kind in ("addresses", "numbers") else fault
-            reads(made_whole(at(kind, change)), fault, about=(how, kind) if each else how)
+            reads(q, made_whole(at(kind, change)), fault)
     for first, second in itertools.permutations(("doubled", "criticality", "cut", "after unknown critical"), 2):
-        order(first, second)
-    reads(made_whole(lambda listed: listed[::-1]), about="turned round")
-    reads(made_whole(lambda listed: listed[3:] + listed[:3]), about="turned")
+        order(q, first, second)
+    reads(q, made_whole(lambda listed: listed[::-1]))
+    reads(q, made_whole(lambda listed: listed[3:] + listed[:3]))
 
 
 def made_whole(swap):
@@ -224,14 +207,14 @@ def unknown(is_critical, value=b"\x05\x00"):
     return world.extension("1.2.3.4", value, is_critical)
 
 
-def order(first, second):
+def order(q, first, second):
     """Two faults: the first in the list is told."""
-    changes = {how: (change, fault) for how, change, fault, _ in FAULTS}
+    changes = {how: (change, fault) for how, change, fault in FAULTS}
     swap = lambda listed: at("usage", changes[second][0])(at("subject key", changes[first][0])(listed))
-    reads(made_whole(swap), changes[first][1], about=("faults", first, second))
+    reads(q, made_whole(swap), changes[first][1])
 
 
-def lists():
+def lists(q):
     """The tests after the list, in their order: some resources, a policy, versions of both kinds, key identifier, usage."""
     drop = lambda *kinds: lambda listed: [(kind, octets) for kind, octets in listed if kind not in kinds]
     texts = [
@@ -242,19 +225,18 @@ def lists():
     ]
     for count in range(1, len(texts) + 1):
         for some in itertools.combinations(texts, count):
-            about = ("missing", *some) if count <= 2 else None
-            reads(made_whole(drop(*(kind for kinds, _ in some for kind in kinds))), some[0][1], about=about)
+            reads(q, made_whole(drop(*(kind for kinds, _ in some for kind in kinds))), some[0][1])
     other = lambda kind: dict(made_trimmed().extensions())[kind]
     ip, asn = "IP resources under another policy", "AS resources under another policy"
     for kind, text in (("addresses", ip), ("numbers", asn)):
-        reads(made_whole(at(kind, lambda octets: [other(kind)])), text, about=("other policy", kind))
+        reads(q, made_whole(at(kind, lambda octets: [other(kind)])), text)
         both = at(kind, lambda octets: [octets, other(kind)])
-        reads(made_whole(both), "duplicate extension", about=("both policies", kind))
+        reads(q, made_whole(both), "duplicate extension")
     both = lambda listed: at("addresses", lambda octets: [other("addresses")])(at("numbers", lambda octets: [other("numbers")])(listed))
-    reads(made_whole(both), ip, about="other policy")
-    reads(made_whole(lambda listed: drop("subject key")(both(listed))), ip, about="other policy, no key identifier")
-    reads(made_whole(lambda listed: drop("policy")(both(listed))), "no certificate policy", about="other policy, no policy")
-    reads(made_trimmed(), about="trimmed")
+    reads(q, made_whole(both), ip)
+    reads(q, made_whole(lambda listed: drop("subject key")(both(listed))), ip)
+    reads(q, made_whole(lambda listed: drop("policy")(both(listed))), "no certificate policy")
+    reads(q, made_trimmed())
 
 
 def made_trimmed():
@@ -267,36 +249,36 @@ def whole_with(**parts):
     return made
 
 
-def fields():
+def fields(q):
     """Fields of which one is another; the rest is told as it was."""
     for role in ("ta", "ee"):
         for serial in (0, 1, 127, 128, 2**64, 2**159 - 1):
-            reads(made(role, sets(serial=serial)), about=("serial", serial))
+            reads(q, made(role, sets(serial=serial)))
         for trims in (False, True):
             for items in ({"ipv4": "inherit"}, {"ipv6": "inherit", "as": "inherit"}, {"as": []}, {"ipv4": [], "ipv6": ["2001:db8::/32"]}):
-                reads(made(role, sets(claims=items, trims=trims)), about=("claims", str(items), trims))
+                reads(q, made(role, sets(claims=items, trims=trims)))
         for validity in ((FIRST, FIRST), (LAST, FIRST), (b"19500101000000Z", b"20491231235959Z"), (b"20500101000000Z", b"99991231235959Z")):
-            reads(made(role, sets(validity=validity)), about=("validity", validity))
-        reads(made(role, sets(inner=SIGN_BARE)), about="inner algorithm")
-        reads(made(role, sets(outer=SIGN_BARE)), about="outer algorithm")
-        reads(made(role, sets(basic=False)), about="no authority")
+            reads(q, made(role, sets(validity=validity)))
+        reads(q, made(role, sets(inner=SIGN_BARE)))
+        reads(q, made(role, sets(outer=SIGN_BARE)))
+        reads(q, made(role, sets(basic=False)))
     # RFC 5280 4.2.1.9: an empty SEQUENCE says that the subject is no authority.
     assert world.basic(False).endswith(tlv(4, b"\x30\x00"))
 
 
-def copies():
+def copies(q):
     """A copy is told as the certificate is, and is written as the same octets."""
     for role in TESTS:
         for parts in (made(role), whole(role)):
-            ask(copy_told(parts), "read", "copy", parts.octets(), about=("copy", role, parts.octets()))
+            q.ask(copy_told(parts), "read", "copy", parts.octets())
     for parts in (made_trimmed(), made("ca", sets(outer=SIGN_BARE)), made("ee", sets(inner=SIGN_BARE))):
-        ask(copy_told(parts), "read", "copy", parts.octets(), about=("copy", parts.octets()))
+        q.ask(copy_told(parts), "read", "copy", parts.octets())
     for parts in (made("ta"), made("ta", sets(trims=True)), issuer()):
         answer = f"{parts.held()} t x{parts.octets()} 0"
-        ask(answer, "anchor", "copy", "strict", MOMENT.decode(), "good", parts.octets(), about=("anchor copy", parts.octets()))
+        q.ask(answer, "anchor", "copy", "strict", MOMENT.decode(), "good", parts.octets())
 
 
-def within():
+def within(q):
     """Certificates read in each mode, among other values, and under a tag; what is signed by itself (X.690 8.1.3.6, 8.2.2, 9.1, 10.1)."""
     good = made("ca")
     octets, signed = bytes.fromhex(good.octets()), good.signed()
@@ -322,62 +304,60 @@ def within():
     for (how, (value, modes)), mode in itertools.product(forms.items(), ("der", "ber", "cer")):
         answer = good.whole() if mode in modes else "refused"
         for call in ("taken", "next"):
-            ask(answer, "within", call, mode, value.hex(), about=("within", call, mode, how))
+            q.ask(answer, "within", call, mode, value.hex())
         if value[:1] == b"\x30":
-            ask(answer, "within", "tagged", mode, (b"\xa1" + value[1:]).hex(), about=("within", "tagged", mode, how))
+            q.ask(answer, "within", "tagged", mode, (b"\xa1" + value[1:]).hex())
     for mode in ("der", "ber"):
         for value in (b"", NULL + octets, b"\xa1" + octets[1:]):
-            ask("none", "within", "next", mode, value.hex(), about=("within", "none", mode, value[:1]))
-            ask("refused", "within", "taken", mode, value.hex(), about=("within", "no sequence", mode, value[:1]))
-        ask("refused", "within", "next", mode, seq(NULL).hex(), about=("within", "another sequence", mode))
-        ask("refused", "within", "tagged", mode, octets.hex(), about=("within", "no tag", mode))
+            q.ask("none", "within", "next", mode, value.hex())
+            q.ask("refused", "within", "taken", mode, value.hex())
+        q.ask("refused", "within", "next", mode, seq(NULL).hex())
+        q.ask("refused", "within", "tagged", mode, octets.hex())
     for role in TESTS:
         parts = made(role)
-        ask(parts.told(), "within", "signed", "der", parts.signed().hex(), about=("signed", role))
-        ask(parts.told(), "within", "signed", "ber", open_ended(parts.signed()).hex(), about=("signed open", role))
-    ask("refused", "within", "signed", "der", open_ended(signed).hex(), about="signed open")
-    ask("refused", "within", "signed", "cer", signed.hex(), about="signed definite")
-    ask("refused", "within", "signed", "der", signed[:-1].hex(), about="signed cut")
+        q.ask(parts.told(), "within", "signed", "der", parts.signed().hex())
+        q.ask(parts.told(), "within", "signed", "ber", open_ended(parts.signed()).hex())
+    q.ask("refused", "within", "signed", "der", open_ended(signed).hex())
+    q.ask("refused", "within", "signed", "cer", signed.hex())
+    q.ask("refused", "within", "signed", "der", signed[:-1].hex())
 
 
-def refusals():
+def refusals(q):
     """Certificates of which one field is left out, doubled, of another kind, or cut."""
     good = made("ca")
     parts = lambda octets: split(octets[header(octets) :])
     outer, tbs = parts(bytes.fromhex(good.octets())), parts(good.signed())
 
-    def refuse(about, fields, others=outer):
-        ask("false", "read", "tested", seq(seq(*fields), *others[1:]).hex(), about=("refused", *about))
+    def refuse(fields, others=outer):
+        q.ask("false", "read", "tested", seq(seq(*fields), *others[1:]).hex())
 
     for index, field in enumerate(tbs):
         changed = lambda *parts: [*tbs[:index], *parts, *tbs[index + 1 :]]
-        refuse(("left out", index), changed())
-        refuse(("doubled", index), changed(field, field))
-        refuse(("other form", index), changed(bytes([field[0] ^ 0x20]) + field[1:]))
-        refuse(("cut", index), changed(tlv(field[0], field[header(field) : -1])))
-        refuse(("null", index), changed(NULL))
+        refuse(changed())
+        refuse(changed(field, field))
+        refuse(changed(bytes([field[0] ^ 0x20]) + field[1:]))
+        refuse(changed(tlv(field[0], field[header(field) : -1])))
+        refuse(changed(NULL))
     for version in (0, 1, 3):
-        refuse(("version", version), [tlv(0xA0, integer(version)), *tbs[1:]])
+        refuse([tlv(0xA0, integer(version)), *tbs[1:]])
     for serial in (tlv(2, b"\xff"), tlv(2, b"\x00\x01"), tlv(2, b"\x01" + b"\0" * 20), tlv(2)):
-        refuse(("serial", serial), [tbs[0], serial, *tbs[2:]])
+        refuse([tbs[0], serial, *tbs[2:]])
     for kind in ("1.2.840.113549.1.1.5", "1.2.840.113549.1.1.12", "1.2.840.10045.4.3.2"):
-        refuse(("inner algorithm", kind), [*tbs[:2], seq(oid(kind), NULL), *tbs[3:]])
-        refuse(("outer algorithm", kind), tbs, [outer[0], seq(oid(kind), NULL), outer[2]])
+        refuse([*tbs[:2], seq(oid(kind), NULL), *tbs[3:]])
+        refuse(tbs, [outer[0], seq(oid(kind), NULL), outer[2]])
     for time in (tlv(0x17, b"240230000000Z"), tlv(0x17, b"2401010000Z"), tlv(0x18, b"20240101000000+0000"), tlv(0x18, b"20240101000060Z")):
-        refuse(("from", time), [*tbs[:4], seq(time, world.time(LAST)), *tbs[5:]])
-        refuse(("to", time), [*tbs[:4], seq(world.time(FIRST), time), *tbs[5:]])
+        refuse([*tbs[:4], seq(time, world.time(LAST)), *tbs[5:]])
+        refuse([*tbs[:4], seq(world.time(FIRST), time), *tbs[5:]])
     for key in (seq(seq(oid("1.2.840.10040.4.1"), NULL), bits(b"k")), seq(RSA), seq(RSA, tlv(3)), seq(RSA, tlv(3, b"\x08k"))):
-        refuse(("key", key), [*tbs[:6], key, *tbs[7:]])
+        refuse([*tbs[:6], key, *tbs[7:]])
     for others in (outer[:2], [*outer, NULL], [outer[0], outer[1], tlv(4, b"signed")]):
-        refuse(("outer", len(others), others[-1]), tbs, others)
-    ask("true", "read", "tested", good.octets(), about="whole")
+        refuse(tbs, others)
+    q.ask("true", "read", "tested", good.octets())
     # Octets after the certificate aren't read.
-    ask("true", "read", "tested", good.octets() + NULL.hex(), about="followed")
+    q.ask("true", "read", "tested", good.octets() + NULL.hex())
     octets = bytes.fromhex(good.octets())
     for end in range(len(octets)):
-        # Stored is the shortest front with each number of whole fields.
-        whole_fields = sum(octets.index(field) + len(field) <= end for field in tbs + outer)
-        ask("false", "read", "tested", octets[:end].hex(), about=("front", whole_fields))
+        q.ask("false", "read", "tested", octets[:end].hex())
 
 
 def split(octets):
@@ -405,79 +385,71 @@ def handed(answer, parts):
 ANCHOR_CALLS = ("validate_ta_at", "validate_ta", "verify_ta_at", "verify_ta")
 
 
-def as_anchor(answer, parts, moment=MOMENT.decode(), judge="good", strict="strict", about=None, call=ANCHOR_CALLS[0]):
-    about = about and (call, *about)
-    ask(handed(answer, parts), "anchor", call, strict, moment, judge, parts.octets(), about=about)
+def as_anchor(q, answer, parts, moment=MOMENT.decode(), judge="good", strict="strict", call=ANCHOR_CALLS[0]):
+    q.ask(handed(answer, parts), "anchor", call, strict, moment, judge, parts.octets())
 
 
 def vouched():
-    """What verification says of anchors, whoever inspects: the parts, the answer, the moment, whether signatures are good."""
+    """What verification says of anchors, whoever inspects: the parts, the answer, the moment, whether signatures are good. The moment is
+    tested before claims, and these before the signature."""
     good = made("ta")
     for first, last in ((FIRST, LAST), (MOMENT, MOMENT)):
         parts = made("ta", sets(validity=(first, last)))
         for moment in (first, last):
-            yield f"{parts.held()} 1", parts, moment.decode(), "good", ("at", first, moment)
-        yield "not yet valid 0", parts, later(first, -1), "good", ("before", first)
-        yield "expired 0", parts, later(last, 1), "good", ("after", last)
-    yield "bad signature 1", good, MOMENT.decode(), "bad", ["signature"]
+            yield f"{parts.held()} 1", parts, moment.decode(), "good"
+        yield "not yet valid 0", parts, later(first, -1), "good"
+        yield "expired 0", parts, later(last, 1), "good"
+    yield "bad signature 1", good, MOMENT.decode(), "bad"
     for kind, text in (("ipv4", "IPv4 addresses"), ("ipv6", "IPv6 addresses"), ("as", "AS numbers")):
         parts = made("ta", claims(**{kind: "inherit"}))
-        yield f"inherited {text} 0", parts, MOMENT.decode(), "good", ("inherits", kind)
-        yield f"inherited {text} 0", parts, MOMENT.decode(), "bad", ["inherits before signature"]
-        yield "expired 0", parts, later(LAST, 1), "good", ["moment before inherits"]
+        yield f"inherited {text} 0", parts, MOMENT.decode(), "good"
+        yield f"inherited {text} 0", parts, MOMENT.decode(), "bad"
+        yield "expired 0", parts, later(LAST, 1), "good"
     three = made("ta", claims(ipv4="inherit", ipv6="inherit", **{"as": "inherit"}))
-    yield "inherited IPv4 addresses 0", three, MOMENT.decode(), "good", ["inherits all"]
-    yield "inherited IPv6 addresses 0", made("ta", claims(ipv6="inherit", **{"as": "inherit"})), MOMENT.decode(), "good", ["inherits two"]
+    yield "inherited IPv4 addresses 0", three, MOMENT.decode(), "good"
+    yield "inherited IPv6 addresses 0", made("ta", claims(ipv6="inherit", **{"as": "inherit"})), MOMENT.decode(), "good"
 
 
-def anchors():
+def anchors(q):
     good = made("ta")
-    for answer, parts, moment, judge, about in vouched():
+    for answer, parts, moment, judge in vouched():
         for call in ANCHOR_CALLS:
-            as_anchor(answer, parts, moment, judge, about=about, call=call)
+            as_anchor(q, answer, parts, moment, judge, call=call)
         said, count = answer.rsplit(" ", 1)
         for call in ("verify_ta_ref_at", "verify_ta_ref"):
             words = "strict", moment, judge, made("ta", sets(validity=(b"20000101000000Z", b"20991231235959Z"))).octets(), parts.octets()
-            ask(f"{'ok' if said.startswith('holds') else said} {count}", "issued", "lent", call, *words, about=(call, *about))
+            q.ask(f"{'ok' if said.startswith('holds') else said} {count}", "issued", "lent", call, *words)
     for test in TESTS["ta"]:
         parts = made("ta", FAILS[test])
-        as_anchor(f"{TEXTS[test]} 0", parts, later(LAST, 1), about=("form before moment", test))
+        as_anchor(q, f"{TEXTS[test]} 0", parts, later(LAST, 1))
         # Whose form isn't asked for, that one is accepted.
-        as_anchor(f"{TEXTS[test]} 0", parts, call="validate_ta", about=("form", test) if test in ("NotCa", "AiaPresent") else None)
+        as_anchor(q, f"{TEXTS[test]} 0", parts, call="validate_ta")
         for call in ANCHOR_CALLS[2:]:
-            as_anchor(f"{parts.held()} 1", parts, call=call, about=("form", test) if test in ("NotCa", "AiaPresent") else None)
-    as_anchor(f"{good.held()} 1", made("ta", sets(issuer=name(b"one", 0x0C))), strict="relaxed", about=["relaxed"])
-    as_anchor(f"{TEXTS['BadIssuer']} 0", made("ta", sets(issuer=name(b"one", 0x0C))), about=["strict"])
+            as_anchor(q, f"{parts.held()} 1", parts, call=call)
+    as_anchor(q, f"{good.held()} 1", made("ta", sets(issuer=name(b"one", 0x0C))), strict="relaxed")
+    as_anchor(q, f"{TEXTS['BadIssuer']} 0", made("ta", sets(issuer=name(b"one", 0x0C))))
     # No authority key identifier, a repository with a slash at its end, other cases.
-    as_anchor(f"{good.held()} 1", made("ta", sets(authority_key=None)), about=["no authority key"])
+    as_anchor(q, f"{good.held()} 1", made("ta", sets(authority_key=None)))
     for repository, is_good in ((HOST + "/", True), (HOST.replace("e", "E", 1), True), (HOST[:-1] + "P", False), (HOST + "//", False)):
         answer = f"{good.held()} 1" if is_good else f"{TEXTS['ManifestNotChild']} 0"
-        as_anchor(answer, made("ta", places(repository=repository)), about=("repository", repository))
+        as_anchor(q, answer, made("ta", places(repository=repository)))
 
 
-def anchor_cert():
+def anchor_cert(q):
     """The worked case `anchor-cert` as it is read: serial number 12, all numbers under the policy that trims."""
     good = lambda *changes: made("ta", sets(trims=True), *changes)
-    numbers = itertools.count()
-
-    def say(answer, parts, moment):
-        as_anchor(answer, parts, moment, about=("anchor-cert", next(numbers)))
-
-    def read(parts, fault=None):
-        reads(parts, fault, about=("anchor-cert", next(numbers)))
-
-    read(good())
+    reads(q, good())
     for moment in (FIRST, LAST):
-        say(f"{good().held()} 1", good(), moment.decode())
-    say("not yet valid 0", good(), later(FIRST, -1))
-    say("expired 0", good(), later(LAST, 1))
-    say(f"{TEXTS['ManifestNotChild']} 0", good(FAILS["ManifestNotChild"]), MOMENT.decode())
-    say(f"{TEXTS['AlgorithmMismatch']} 0", good(FAILS["AlgorithmMismatch"]), MOMENT.decode())
-    read(good(swaps(lambda listed: [row for row in listed if row[0] != "policy"])), "no certificate policy")
+        as_anchor(q, f"{good().held()} 1", good(), moment.decode())
+    as_anchor(q, "not yet valid 0", good(), later(FIRST, -1))
+    as_anchor(q, "expired 0", good(), later(LAST, 1))
+    as_anchor(q, f"{TEXTS['ManifestNotChild']} 0", good(FAILS["ManifestNotChild"]))
+    as_anchor(q, f"{TEXTS['AlgorithmMismatch']} 0", good(FAILS["AlgorithmMismatch"]))
+    reads(q, good(swaps(lambda listed: [row for row in listed if row[0] != "policy"])), "no certificate policy")
     others = dict(made("ta").extensions())
-    read(good(swaps(at("addresses", lambda octets: [octets, others["addresses"]]))), "duplicate extension")
-    read(good(swaps(lambda listed: [*listed, ("unknown", unknown(False))])))
-    read(good(sets(basic=False)))
+    reads(q, good(swaps(at("addresses", lambda octets: [octets, others["addresses"]]))), "duplicate extension")
+    reads(q, good(swaps(lambda listed: [*listed, ("unknown", unknown(False))])))
+    reads(q, good(sets(basic=False)))
 
 
 HELD = {"ipv4": ["10.0.0.0/8", "192.0.2.0/24"], "ipv6": ["2001:db8::/32"], "as": [(64496, 64511)]}
@@ -501,58 +473,57 @@ CALLS = {
 }
 
 
-def under(answer, role, parts, moment=MOMENT.decode(), judge="good", about=None, call=None):
+def under(q, answer, role, parts, moment=MOMENT.decode(), judge="good", call=None):
     how, call = call or CALLS[role][0]
     answer = answer if how == "lent" else handed(answer, parts)
     words = "strict", moment, judge, issuer().octets(), parts.octets()
-    ask(answer, "issued", how, call, *words, about=about and (call, *about))
+    q.ask(answer, "issued", how, call, *words)
 
 
 def holding(v4="", v6="", numbers=""):
     return f"holds [{v4}] [{v6}] [{numbers}] 1"
 
 
-def below():
+def below(q):
     for role, calls in CALLS.items():
 
-        def say(answer, what, *changes, moment=MOMENT.decode(), judge="good"):
+        def say(answer, *changes, moment=MOMENT.decode(), judge="good"):
             for call in calls:
-                under(answer, role, child(role, *changes), moment, judge, about=[what], call=call)
+                under(q, answer, role, child(role, *changes), moment, judge, call=call)
 
         good = "ok 1" if role == "router" else holding("10.0.0.0/8", "", "AS64496")
-        say(good, "good")
+        say(good)
         inner = (later(FIRST, 10).encode(), later(LAST, -10).encode())
-        say(good, "at first", sets(validity=inner), moment=inner[0].decode())
-        say(good, "at last", sets(validity=inner), moment=inner[1].decode())
-        say("not yet valid 0", "before", sets(validity=inner), moment=later(inner[0], -1))
-        say("expired 0", "after", sets(validity=inner), moment=later(inner[1], 1))
-        say("missing authority key identifier 0", "no authority key", sets(authority_key=None))
-        say("authority key identifier of another key 0", "other authority key", sets(authority_key=OTHER_KEY))
-        say("missing URI of the issuer 0", "no URI", sets(aia=None))
-        say("bad signature 1", "signature", judge="bad")
+        say(good, sets(validity=inner), moment=inner[0].decode())
+        say(good, sets(validity=inner), moment=inner[1].decode())
+        say("not yet valid 0", sets(validity=inner), moment=later(inner[0], -1))
+        say("expired 0", sets(validity=inner), moment=later(inner[1], 1))
+        say("missing authority key identifier 0", sets(authority_key=None))
+        say("authority key identifier of another key 0", sets(authority_key=OTHER_KEY))
+        say("missing URI of the issuer 0", sets(aia=None))
+        say("bad signature 1", judge="bad")
         # The first that fails: form, moment, issuer, signature, numbers.
         outside = claims(**{"as": [1]})
-        say("overclaimed AS resources: AS1 1", "overclaimed", outside)
-        say("bad signature 1", "signature before claims", outside, judge="bad")
-        say("missing URI of the issuer 0", "URI before signature", outside, sets(aia=None), judge="bad")
-        say("missing authority key identifier 0", "key before URI", sets(aia=None, authority_key=None))
-        say("expired 0", "moment before key", sets(validity=(FIRST, FIRST), authority_key=None))
+        say("overclaimed AS resources: AS1 1", outside)
+        say("bad signature 1", outside, judge="bad")
+        say("missing URI of the issuer 0", outside, sets(aia=None), judge="bad")
+        say("missing authority key identifier 0", sets(aia=None, authority_key=None))
+        say("expired 0", sets(validity=(FIRST, FIRST), authority_key=None))
         for test in TESTS[role]:
             parts = child(role, FAILS[test], sets(validity=(FIRST, FIRST), authority_key=None))
             for call in calls:
                 inspects = call[1].startswith("validate")
-                about = ("form before moment", test) if call == calls[0] or test in ("AlgorithmMismatch", TESTS[role][-1]) else None
-                under(f"{TEXTS[test]} 0" if inspects else "expired 0", role, parts, about=about, call=call)
-    single_tests()
-    numbers()
+                under(q, f"{TEXTS[test]} 0" if inspects else "expired 0", role, parts, call=call)
+    single_tests(q)
+    numbers(q)
 
 
-def single_tests():
+def single_tests(q):
     """The tests by themselves: of a certificate without a form, which claims what isn't held."""
     whatever = sets(inner=SIGN_BARE), claims(**{"as": [1]})
 
     def say(answer, call, *changes, **how):
-        under(answer, "ee", child("ee", *whatever, *changes), **how, about=[answer, how.get("moment")], call=("lent", call))
+        under(q, answer, "ee", child("ee", *whatever, *changes), **how, call=("lent", call))
 
     for moment in (FIRST, LAST, MOMENT):
         say("ok 0", "verify_validity", sets(aia=None, authority_key=None), moment=moment.decode())
@@ -569,15 +540,14 @@ def single_tests():
     say("bad signature 1", "verify_signature", judge="bad")
 
 
-def numbers():
+def numbers(q):
     """The claim rule (RFC 6487 7.2, RFC 8360 4.2): missing, inherited, listed inside and outside, refused and trimmed."""
     v4, v6, asns = "10.0.0.0/8, 192.0.2.0/24", "2001:db8::/32", "AS64496-AS64511"
     for role in ("ca", "ee", "detached"):
 
         def say(answer, trims=False, **listed):
             for call in CALLS[role]:
-                about = ("claims", str(listed), trims) if call == CALLS[role][0] else None
-                under(answer, role, child(role, sets(claims=listed, trims=trims)), about=about, call=call)
+                under(q, answer, role, child(role, sets(claims=listed, trims=trims)), call=call)
 
         say(holding(v4, v6, asns), ipv4="inherit", ipv6="inherit", **{"as": "inherit"})
         say(holding(v4), ipv4="inherit")
@@ -601,66 +571,27 @@ def numbers():
     for trims in (False, True):
         outside = "ok 1" if trims else "overclaimed AS resources: AS64512 1"
         for answer, items in (("ok 1", [64496, (64500, 64511)]), (outside, [64496, 64512]), ("ok 1", [])):
-            under(answer, "router", child("router", sets(claims={"as": items}, trims=trims)), about=("router", str(items), trims))
-
-
-def all_questions():
-    """The questions about roles, and those about built certificates, each with its answer and what it is about."""
-    inspections()
-    faults()
-    lists()
-    fields()
-    copies()
-    within()
-    refusals()
-    anchors()
-    anchor_cert()
-    below()
-    for words, answer, about in built.validated():
-        ask(answer, *words, about=about)
-    BUILT.extend(("\t".join(["built", *words]), answer, about) for words, answer, about in built.questions())
-    for rows in (QUESTIONS, BUILT):
-        answers = {}
-        for question, answer, _ in rows:
-            assert answers.setdefault(question, answer) == answer, question
-    return QUESTIONS, BUILT
-
-
-def stored(rows):
-    """The first question about each thing."""
-    seen, found = set(), {}
-    for question, answer, about in rows:
-        about = tuple(about) if isinstance(about, list) else about
-        if about is not None and about not in seen:
-            seen.add(about)
-            found.setdefault(question, answer)
-    return list(found.items())
-
-
-def ask_program(program, rows):
-    """Prints each question that the program answers otherwise; how many."""
-    rows = list(dict.fromkeys((f"cert\t{question}", answer) for question, answer, _ in rows))
-    asked = "".join(f"{question}\n" for question, _ in rows)
-    said = subprocess.run([program], input=asked, capture_output=True, text=True, check=True).stdout.splitlines()
-    assert len(said) == len(rows), (len(said), len(rows))
-    others = [(question, answer, told) for (question, answer), told in zip(rows, said) if answer != told]
-    for question, answer, told in others:
-        print(f"{question}\n  is {answer}\n  told {told}")
-    print(f"{len(rows) - len(others)} passed, {len(others)} failed")
-    return len(others)
+            under(q, answer, "router", child("router", sets(claims={"as": items}, trims=trims)))
 
 
 def roles(q):
-    """Asks those that are stored."""
-    for rows in all_questions():
-        for question, answer in stored(rows):
-            q.ask(answer, "cert", question)
+    """Asks each question once."""
+    found = asking.Questions(f"{q.member}\tcert")
+    for ask in (inspections, faults, lists, fields, copies, within, refusals, anchors, anchor_cert, below, built):
+        ask(found)
+    rows = dict.fromkeys(found.rows)
+    assert len(dict(rows)) == len(rows), "a question has two answers"
+    q.rows += rows
 
 
 def main():
     if len(sys.argv) != 3 or sys.argv[1] != "--all":
-        sys.exit("usage: certs_roles.py --all PROGRAM")
-    sys.exit(1 if ask_program(sys.argv[2], [row for rows in all_questions() for row in rows]) else 0)
+        sys.exit("usage: certificates_roles.py --all PROGRAM")
+    q = asking.Questions("certificates")
+    roles(q)
+    passed, failed = asking.compare(pathlib.Path(sys.argv[2]).resolve(), q.rows)
+    print(f"{passed} passed, {failed} failed")
+    sys.exit(1 if failed else 0)
 
 
 if __name__ == "__main__":

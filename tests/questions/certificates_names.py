@@ -1,134 +1,44 @@
-"""Questions about names and serial numbers, for tests/questions/certs_cases.py.
+"""Questions about names and serial numbers, for tests/questions/certificates.py.
 
-A name is read here by the rules of X.690 8.1, 9.1 and 10.1, and then compared with X.501 9.2 (Name, a SEQUENCE OF SET OF
-SEQUENCE of a type and a value), and with RFC 6487 4.4 for inspection: one commonName, at most one serialNumber, nothing
+What octets begin with is compared with X.501 9.2 (Name, a SEQUENCE OF SET OF SEQUENCE of a type and a value), and with RFC 6487 4.4 for inspection: one commonName, at most one serialNumber, nothing
 else, each a primitive PrintableString; where not strict, and for routers, a primitive UTF8String too.
 """
 
 import itertools
 import random
 
+from certificates_x690 import MODES, Refused, content_of, need, parts_of, value
+from rpki_repositories import seq, tlv
+
 rng = random.Random(2811)
 
-MODES = ("der", "ber", "cer")
 COMMON, SERIAL, COUNTRY = bytes([6, 3, 85, 4, 3]), bytes([6, 3, 85, 4, 5]), bytes([6, 3, 85, 4, 6])
 PRINTABLE = b"ABCDEFGHIJKLMNOPQRSTUVWXYZabcdefghijklmnopqrstuvwxyz0123456789 '()+,-./:=?"
 
 
-class Refused(Exception):
-    pass
-
-
-def tlv(tag, content):
-    size = len(content)
-    octets = size.to_bytes((size.bit_length() + 7) // 8, "big")
-    return bytes([tag, size] if size < 128 else [tag, 128 + len(octets), *octets]) + content
-
-
-def need(yes):
-    if not yes:
-        raise Refused
-
-
-class Reader:
-    """The values of octets in a mode, from the front."""
-
-    def __init__(self, mode, text):
-        self.mode, self.text, self.at = mode, text, 0
-
-    def octet(self):
-        need(self.at < len(self.text))
-        self.at += 1
-        return self.text[self.at - 1]
-
-    def identifier(self):
-        """Class, whether constructed, and number: up to three octets behind 31 (8.1.2)."""
-        first = self.octet()
-        number = first & 31
-        if number == 31:
-            number, many = 0, 0
-            while True:
-                more = self.octet()
-                many += 1
-                need(many <= 3 and (many > 1 or more != 128))
-                number = number << 7 | more & 127
-                if more < 128:
-                    break
-            need(number >= 31)
-        tag = (first >> 6, number)
-        need(tag != (0, 0))  # what closes a content has no value
-        return tag, bool(first & 32)
-
-    def size(self, built):
-        """The length, None where it is indefinite (8.1.3)."""
-        first = self.octet()
-        if first < 128:
-            need(not (built and self.mode == "cer"))
-            return first
-        if first == 128:
-            need(built and self.mode != "der")
-            return None
-        need(first <= 132)
-        octets = [self.octet() for _ in range(first - 128)]
-        size = int.from_bytes(bytes(octets), "big")
-        if self.mode != "ber":
-            need(size >= 128 and octets[0] != 0)
-        need(not (built and self.mode == "cer"))
-        return size
-
-    def value(self):
-        """Tag, whether constructed, and content octets or values."""
-        tag, built = self.identifier()
-        size = self.size(built)
-        if size is None:
-            values = []
-            while self.text[self.at : self.at + 2] != b"\0\0":
-                values.append(self.value())
-            self.at += 2
-            return tag, True, values
-        need(self.at + size <= len(self.text))
-        content = self.text[self.at : self.at + size]
-        self.at += size
-        if not built:
-            return tag, False, content
-        inner = Reader(self.mode, content)
-        values = []
-        while inner.at < len(content):
-            values.append(inner.value())
-        return tag, True, values
-
-
-def within(value, number):
-    """The values in a constructed value of that universal tag."""
-    tag, built, inside = value
-    need(tag == (0, number) and built)
-    return inside
-
-
 def attributes(mode, text):
     """The attributes of the name in front of the text, and how many octets it has."""
-    reader = Reader(mode, text)
+    name, _ = value(text, mode)
     found = []
-    for relative in within(reader.value(), 16):
-        for attribute in within(relative, 17):
-            fields = within(attribute, 16)
+    for relative in parts_of(name, 16):
+        for attribute in parts_of(relative, 17):
+            fields = parts_of(attribute, 16)
             need(len(fields) == 2)
-            tag, built, kind = fields[0]
-            need(tag == (0, 6) and not built and len(kind) > 0 and kind[-1] < 128)  # 8.19
+            kind = content_of(fields[0], 6)
+            need(kind and kind[-1] < 128)  # 8.19
             found.append((kind, fields[1]))
-    return found, reader.at
+    return found, len(name.octets)
 
 
-def is_text(value, loose):
-    tag, built, content = value
-    if built:
+def is_text(item, loose):
+    if item.content is None:
         return False
-    if tag == (0, 19):
-        return all(octet in PRINTABLE for octet in content)
-    if tag != (0, 12) or not loose:
+    if item.tag == (0, 19):
+        return all(octet in PRINTABLE for octet in item.content)
+    if item.tag != (0, 12) or not loose:
         return False
     try:
-        content.decode("utf-8")
+        item.content.decode("utf-8")
     except UnicodeDecodeError:
         return False
     return True
@@ -137,11 +47,7 @@ def is_text(value, loose):
 def passes(found, loose):
     kinds = sorted(kind for kind, _ in found)
     wanted = kinds in ([COMMON[2:]], [COMMON[2:], SERIAL[2:]])
-    return wanted and all(is_text(value, loose) for _, value in found)
-
-
-def seq(*parts):
-    return tlv(48, b"".join(parts))
+    return wanted and all(is_text(item, loose) for _, item in found)
 
 
 def many(*parts):
@@ -371,7 +277,7 @@ def names(q):
 # Serial numbers: an INTEGER from 0 up, below 2^160 (RFC 5280 4.1.2.2, X.690 8.3).
 
 
-def content_of(number):
+def octets_of(number):
     return number.to_bytes(number.bit_length() // 8 + 1, "big")
 
 
@@ -381,17 +287,17 @@ def serials(q):
     numbers |= {rng.getrandbits(rng.randrange(1, 161)) for _ in range(60)}
     numbers = sorted(number for number in numbers if number < 2**160)
     for at, number in enumerate(numbers):
-        text = tlv(2, content_of(number))
+        text = tlv(2, octets_of(number))
         for mode in MODES if at % 4 == 0 else MODES[:1]:
             q.ask(f"{number} {text.hex()}", "serial", "read", mode, text.hex())
-        q.ask(str(number), "serial", "slice", content_of(number).hex())
+        q.ask(str(number), "serial", "slice", octets_of(number).hex())
     q.ask("0", "serial", "slice", "")
     q.ask("7", "serial", "slice", (bytes(30) + b"\x07").hex())
     for number in (2**160, 2**160 + 1, 2**161 - 1, 2**168, 2**400 + 5):
-        q.ask("refused: too great", "serial", "slice", content_of(number).hex())
+        q.ask("refused: too great", "serial", "slice", octets_of(number).hex())
         for mode in MODES:
-            q.ask("refused: content", "serial", "read", mode, tlv(2, content_of(number)).hex())
-    good = tlv(2, content_of(2**152 + 77))
+            q.ask("refused: content", "serial", "read", mode, tlv(2, octets_of(number)).hex())
+    good = tlv(2, octets_of(2**152 + 77))
     bad = [b"", b"\x02\x00", b"\x02\x01\x80", b"\x02\x01\xff", b"\x02\x02\xff\x00", b"\x02\x02\x00\x7f", b"\x02\x02\x00\x00"]
     bad += [b"\x02\x14" + b"\x80" + bytes(19), b"\x02\x15\x00\x00" + b"\xff" * 19, b"\x22\x03\x02\x01\x05", b"\x0a\x01\x05", b"\x82\x01\x05"]
     bad += [good[:at] for at in range(len(good))]
@@ -403,4 +309,4 @@ def serials(q):
     few = [0, 1, 255, 256, 2**64, 2**127, 2**128 - 1, 2**128, 2**128 + 1, 2**159, 2**160 - 1]
     for one, other in itertools.product(few, repeat=2):
         order = "Less" if one < other else "Greater" if one > other else "Equal"
-        q.ask(f"{order} {str(one == other).lower()}", "serial", "order", content_of(one).hex(), content_of(other).hex())
+        q.ask(f"{order} {str(one == other).lower()}", "serial", "order", octets_of(one).hex(), octets_of(other).hex())

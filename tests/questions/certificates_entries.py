@@ -1,4 +1,4 @@
-"""Questions about entries of revocation lists by themselves, in each mode, for tests/questions/certs_cases.py (RFC 5280 5.1.2.6).
+"""Questions about entries of revocation lists by themselves, in each mode, for tests/questions/certificates.py (RFC 5280 5.1.2.6).
 
 An entry is a SEQUENCE of a serial number and a moment, with nothing after them (RFC 6487 5); a list of them is a SEQUENCE of
 entries, and is absent where there are none. Lengths are definite in DER, indefinite in CER, and both in BER (X.690 8.1.3, 9.1,
@@ -7,13 +7,13 @@ entries, and is absent where there are none. Lengths are definite in DER, indefi
 
 import random
 
-from certs_signed_cases import Refused, around, parts_of, tlv, value
-from crls_lists_cases import entry, entry_of, integer, seq
+from certificates_lists import entry, entry_of
+from certificates_signed import around
+from certificates_x690 import MODES, Refused, parts_of, value
+from rpki_repositories import NULL, integer, seq, tlv
 
 rng = random.Random(2459)
 
-MODES = ("ber", "cer", "der")
-NULL = tlv(5, b"")
 DATES = ("20261123000000Z", "19500101000000Z", "20491231235959Z", "20500101000000Z", "99991231235959Z", "00000101000000Z", "19491231235959Z")
 SERIALS = (0, 1, 127, 128, 255, 256, 2**64, 2**128 - 1, 2**128, 2**159, 2**160 - 1)
 
