@@ -1,14 +1,14 @@
 #!/usr/bin/env python3
-"""Questions about which resource tagged attestations are valid, for tests/questions/attestations_cases.py: documents that are made from
-good ones by one change each, and of authorities, lists and signers by chance.
+"""Questions about which resource tagged attestations are valid, for tests/questions/objects.py: documents that are made from good ones
+by one change each, and of authorities, lists and signers by chance.
 
 What becomes of them is told by tests/lib/rpki_validation.py; of those that are made by hand it is known what they lack, or what
 anchors them and what is then said.
 
-    objects_rta_valid_cases.py [PROGRAM]
+    objects_rta_valid.py PROGRAM
 
-makes all, compares the second reading with what is known by hand, and its paths with the lists of places that are some by their
-definition, and counts what is answered; asks PROGRAM all, if one is given (crates/attestations_cases/out/attestations_cases).
+asks about ten times as many by chance, compares the paths of the second reading with the lists of places that are some by their
+definition, and counts what is answered.
 """
 
 import collections
@@ -16,14 +16,14 @@ import ipaddress
 import itertools
 import pathlib
 import random
-import subprocess
 import sys
 
 sys.dont_write_bytecode = True
 sys.path.insert(0, str(pathlib.Path(__file__).resolve().parents[1] / "lib"))
 
-from objects_rsc_cases import nest  # noqa: E402
-from objects_rta_cases import as_part, edits, made, worked_document, worked_parts  # noqa: E402
+import asking  # noqa: E402
+from objects_rsc import nest  # noqa: E402
+from objects_rta_read import as_part, edits, made, worked_document, worked_parts  # noqa: E402
 from objects_rta_documents import ALONE, ANCHOR, APART, BOTH, CA, EARLY, HIGH, ITSELF, LATE, LOW, MAKER, ONE, OTHER_CA, SECOND_ANCHOR  # noqa: E402
 from objects_rta_documents import SHORT, SOMEBODY, TOP, NEXT, TREE, TWO, WIDE, Base, anchor, authority, ca, certificate, chain  # noqa: E402
 from objects_rta_documents import holder, revocations, ring, tal  # noqa: E402
@@ -279,12 +279,12 @@ def as_stated(found):
 
 
 class Asked:
-    """Questions, each of which is asked once: whether documents are valid, and with `whole` what anchors them."""
+    """Questions, each of which is asked once: whether documents are valid, and what anchors them."""
 
-    def __init__(self, q, whole):
-        self.q, self.whole, self.seen = q, whole, set()
+    def __init__(self, q):
+        self.q, self.seen = q, set()
 
-    def one(self, octets, steps, how="strict", moment=MOMENT, call="valid", is_asked=True):
+    def one(self, octets, steps, how="strict", moment=MOMENT, call="valid"):
         """What is said of the steps and at the end, if the document is valid; and the second reading, if the document is read."""
         try:
             found = Validation(octets, moment[:14], how == "strict")
@@ -293,10 +293,10 @@ class Asked:
         answer = "unreadable" if found is None else " ".join(validated(found))
         said = None if found is None or found.faults else " ".join(anchored(found, steps))
         words = [word for kind, given in steps for word in (kind, written(kind, given))]
-        question = (call, how, moment.decode(), octets.hex(), *(words if self.whole else ()))
-        if is_asked and question not in self.seen:
+        question = (call, how, moment.decode(), octets.hex(), *words)
+        if question not in self.seen:
             self.seen.add(question)
-            self.q.ask(f"{answer} {said}" if self.whole and said else answer, *question)
+            self.q.ask(f"{answer} {said}" if said else answer, *question)
         return said, found
 
     def refused_or_valid(self, wanted, base, new, **how):
@@ -315,7 +315,7 @@ class Asked:
         for base, new, steps, wanted in (*of_steps(), *of_supplied()):
             self.said(wanted, base, new, steps)
         for base, new, wanted in of_what_is_held():
-            self.said(f"{'yes ' * len(base.steps)}{wanted}", base, new, base.steps, is_asked=self.whole)
+            self.said(f"{'yes ' * len(base.steps)}{wanted}", base, new, base.steps)
         self.worked()
         self.moments()
         self.spellings()
@@ -390,12 +390,12 @@ class Asked:
         said, found = self.one(octets, steps)
         if said and len(found.anchored) == len(found.paths):
             stated = as_stated(found)
-            _, found = self.one(base.made(**new, stated=stated), steps, is_asked=self.whole)
+            _, found = self.one(base.made(**new, stated=stated), steps)
             assert found.finalize()
             for kind in KINDS:
                 if stated[kind] and rng.random() < 0.4:
                     fewer = stated[kind][:-1] if rng.random() < 0.5 else [*stated[kind], ({"as": (24, 24), "ipv4": ("10.0.0.24",) * 2}.get(kind, ("2001:db8::18",) * 2))]
-                    _, found = self.one(base.made(**new, stated={**stated, kind: fewer}), steps, is_asked=self.whole)
+                    _, found = self.one(base.made(**new, stated={**stated, kind: fewer}), steps)
                     assert not found.finalize()
 
 
@@ -425,9 +425,9 @@ def anchored(found, steps):
     yield "yes" if found.finalize() else "no"
 
 
-def validations(q, count, whole=False):
+def validations(q, count):
     """Asks about all that are made by hand, and so many by chance."""
-    Asked(q, whole).ask(count)
+    Asked(q).ask(count)
 
 
 def is_path(certs, key, places):
@@ -457,34 +457,17 @@ def compare_paths(count):
             assert paths == right if len(right) < 2 else len(paths) == 2 and all(path in right for path in paths), (paths, right)
 
 
-class Rows:
-    """Questions with their answers."""
-
-    def __init__(self):
-        self.rows = []
-
-    def ask(self, answer, *words):
-        self.rows.append(("\t".join(words), answer))
-
-
-def main():
-    found = Rows()
-    validations(found, 400, whole=True)
+def questions():
+    """All that are made by hand, and many by chance; prints how many are answered alike."""
+    q = asking.Questions("objects\trta")
+    validations(q, 400)
     compare_paths(100)
-    firsts = (answer.split() for _, answer in found.rows)
-    for said, count in sorted(collections.Counter(" ".join(words[:1] if words[0] == "valid" else words) for words in firsts).items()):
-        print(f"{count} {said}")
-    wrong = 0
-    if len(sys.argv) > 1:
-        asked = "".join(f"{question}\n" for question, _ in found.rows)
-        done = subprocess.run([pathlib.Path(sys.argv[1]).resolve()], input=asked, capture_output=True, text=True)
-        for (question, answer), said in itertools.zip_longest(found.rows, done.stdout.splitlines(), fillvalue=("", "")):
-            if said != answer:
-                wrong += 1
-                print(f"{said[:300]!r} in place of {answer[:300]!r}: {question[:3000]}")
-    print(f"{len(found.rows) - wrong} passed, {wrong} failed")
-    return 1 if wrong else 0
+    firsts = (answer.split() for _, answer in q.rows)
+    said = collections.Counter(" ".join(words[:1] if words[0] == "valid" else words) for words in firsts)
+    for words, count in sorted(said.items()):
+        print(f"{count} {words}")
+    return q.rows
 
 
 if __name__ == "__main__":
-    sys.exit(main())
+    asking.main(questions)

@@ -1,5 +1,4 @@
-#!/usr/bin/env python3
-"""Signed objects that crates/objects_cases is asked to build, for tests/questions/objects_cases.py.
+"""Signed objects that are built, for tests/questions/objects.py.
 
 What is written is spelled here by X.690 8, 10 and 11.6 from the fields, line by line as RFC 5652 3 and 5, RFC 6488 2 and RFC 6487 4
 have them; a signature is the SHA-256 digest of the key's bits and of what is signed.
@@ -9,42 +8,11 @@ import hashlib
 import ipaddress
 import random
 
+from objects_contents import answer_of
+from rpki_repositories import ALGORITHM, NULL, RSA, SHA256, bits, extension, integer, oid, seq, tlv
+
 rng = random.Random(6488)
 
-
-def tlv(tag, content):
-    size = len(content)
-    octets = size.to_bytes((size.bit_length() + 7) // 8, "big")
-    return bytes([tag, size] if size < 128 else [tag, 128 + len(octets), *octets]) + content
-
-
-def seq(*parts):
-    return tlv(0x30, b"".join(parts))
-
-
-def oid_content(text):
-    first, second, *others = (int(part) for part in text.split("."))
-    content = b""
-    for number in (40 * first + second, *others):
-        groups = [number & 127]
-        while number := number >> 7:
-            groups.insert(0, number & 127 | 128)
-        content += bytes(groups)
-    return content
-
-
-def oid(text):
-    return tlv(6, oid_content(text))
-
-
-def integer(number):
-    return tlv(2, number.to_bytes(number.bit_length() // 8 + 1, "big"))
-
-
-NULL, TRUE = tlv(5, b""), tlv(1, b"\xff")
-RSA = oid("1.2.840.113549.1.1.1")
-RSA_SHA256 = seq(oid("1.2.840.113549.1.1.11"), NULL)
-SHA256 = seq(oid("2.16.840.1.101.3.4.2.1"))
 PKCS9 = "1.2.840.113549.1.9."
 PE = "1.3.6.1.5.5.7.1."
 AD = "1.3.6.1.5.5.7.48."
@@ -55,12 +23,12 @@ def name(text):
     return seq(tlv(0x31, seq(oid("2.5.4.3"), tlv(19, text.encode()))))
 
 
-def key(bits):
-    return seq(seq(RSA, NULL), tlv(3, b"\0" + bits))
+def key(octets):
+    return seq(RSA, bits(octets))
 
 
-def identifier(bits):
-    return hashlib.sha1(bits).digest()
+def identifier(octets):
+    return hashlib.sha1(octets).digest()
 
 
 def generalized(parts):
@@ -74,10 +42,6 @@ def moment(parts):
     return tlv(23, text[2:]) if 1950 <= parts[0] <= 2049 else tlv(24, text)
 
 
-def extension(kind, critical, value):
-    return seq(oid(kind), TRUE if critical else b"", tlv(4, value))
-
-
 def uri(text):
     return tlv(0x86, text.encode())
 
@@ -89,7 +53,7 @@ def location(method, text):
 def bit_string(number, length):
     """The first bits of an address, the last octet filled with zeros (RFC 3779 2.1.1)."""
     unused = -length % 8
-    return tlv(3, bytes([unused]) + (number << unused).to_bytes((length + unused) // 8, "big"))
+    return bits((number << unused).to_bytes((length + unused) // 8, "big"), unused)
 
 
 def ranges(nets):
@@ -108,7 +72,8 @@ def block(first, last, width):
     free = (first ^ last).bit_length()
     if first % 2**free == 0 and (last + 1) % 2**free == 0:
         return bit_string(first >> free, width - free)
-    zeros, ones = next(bits for bits in range(width + 1) if first >> bits & 1 or bits == width), next(bits for bits in range(width + 1) if not last >> bits & 1)
+    zeros = next(at for at in range(width + 1) if first >> at & 1 or at == width)
+    ones = next(at for at in range(width + 1) if not last >> at & 1)
     return seq(bit_string(first >> zeros, width - zeros), bit_string(last >> ones, width - ones))
 
 
@@ -118,7 +83,7 @@ def family(number, prefixes):
     if prefixes == "inherit":
         said = NULL
     elif prefixes == "all":
-        said = seq(tlv(3, b"\0"))
+        said = seq(bits(b""))
     else:
         nets = [ipaddress.ip_network(text) for text in prefixes]
         said = seq(*(block(*run, nets[0].max_prefixlen) for run in ranges(nets)))
@@ -133,42 +98,42 @@ def asns(numbers):
 
 def extensions(fields):
     """Those of an end entity, in the order of the profile (RFC 6487 4.8)."""
-    yield extension("2.5.29.14", False, tlv(4, identifier(MADE)))
-    yield extension("2.5.29.35", False, seq(tlv(0x80, identifier(ISSUER))))
-    yield extension("2.5.29.15", True, tlv(3, b"\x07\x80"))
-    yield extension("2.5.29.31", False, seq(seq(tlv(0xA0, tlv(0xA0, uri(fields["crl"]))))))
-    yield extension(PE + "1", False, seq(location(AD + "2", fields["aia"])))
-    yield extension(PE + "11", False, seq(location(AD + "11", fields["object"])))
-    yield extension("2.5.29.32", True, seq(seq(oid("1.3.6.1.5.5.7.14.2"))))
+    yield extension("2.5.29.14", tlv(4, identifier(MADE)))
+    yield extension("2.5.29.35", seq(tlv(0x80, identifier(ISSUER))))
+    yield extension("2.5.29.15", tlv(3, b"\x07\x80"), True)
+    yield extension("2.5.29.31", seq(seq(tlv(0xA0, tlv(0xA0, uri(fields["crl"]))))))
+    yield extension(PE + "1", seq(location(AD + "2", fields["aia"])))
+    yield extension(PE + "11", seq(location(AD + "11", fields["object"])))
+    yield extension("2.5.29.32", seq(seq(oid("1.3.6.1.5.5.7.14.2"))), True)
     addresses = family(1, fields.get("v4")) + family(2, fields.get("v6"))
     if addresses:
-        yield extension(PE + "7", True, seq(addresses))
+        yield extension(PE + "7", seq(addresses), True)
     if fields.get("asn") is not None:
-        yield extension(PE + "8", True, asns(fields["asn"]))
+        yield extension(PE + "8", asns(fields["asn"]), True)
 
 
-def signature(bits, data):
-    return hashlib.sha256(bits + data).digest()
+def signature(octets, data):
+    return hashlib.sha256(octets + data).digest()
 
 
 def certificate(fields):
     message = seq(
         tlv(0xA0, integer(2)),
         integer(fields["serial"]),
-        RSA_SHA256,
+        ALGORITHM,
         name(fields.get("issuer") or identifier(ISSUER).hex()),
         seq(moment(fields["from"]), moment(fields["to"])),
         name(fields.get("subject") or identifier(MADE).hex()),
         key(MADE),
         tlv(0xA3, seq(*extensions(fields))),
     )
-    return seq(message, RSA_SHA256, tlv(3, b"\0" + signature(ISSUER, message)))
+    return seq(message, ALGORITHM, bits(signature(ISSUER, message)))
 
 
 def attributes(fields):
     """Each once, ascending by their octets, the shorter filled with zeros (X.690 11.6)."""
     said = (
-        ("3", tlv(6, oid_content(fields["type"]))),
+        ("3", oid(fields["type"])),
         ("4", tlv(4, hashlib.sha256(fields["content"]).digest())),
         ("5", moment(fields["signed"])),
     )
@@ -184,7 +149,7 @@ def built(fields):
         tlv(0x80, identifier(MADE)),
         SHA256,
         tlv(0xA0, signed),
-        seq(RSA, NULL),
+        RSA,
         tlv(4, signature(MADE, tlv(0x31, signed))),
     )
     content = seq(oid(fields["type"]), tlv(0xA0, tlv(4, fields["content"])))
@@ -199,7 +164,7 @@ def text_of(value, kind):
 
 
 def words(fields):
-    yield "type=" + oid_content(fields["type"]).hex()
+    yield "type=" + oid(fields["type"])[2:].hex()
     yield "content=" + fields["content"].hex()
     yield "serial=" + fields["serial"].to_bytes(20, "big").hex()
     for word in ("from", "to", "signed"):
@@ -275,14 +240,11 @@ DUPLICATE, UNFIT = "duplicate provider AS", "key not compatible with the algorit
 
 def again(fields):
     """What is read of the object: its certificate has to have resources, and its content to be of the kind that its type names."""
-    # That script asks these questions, so it imports this one.
-    from objects_cases import answer_of
-
     if not any(fields.get(word) is not None for word in ("v4", "v6", "asn")):
         return "unread"
     kinds = [kind for kind, number in KINDS.items() if number == fields["type"]]
     read = "other" if not kinds else "refused" if answer_of(kinds[0], fields["content"]) == "refused" else "read"
-    return f"again {oid_content(fields['type']).hex()} {read}"
+    return f"again {oid(fields['type'])[2:].hex()} {read}"
 
 
 def issued(kind, content, fields, **claims):
@@ -323,8 +285,8 @@ class Address:
 
     def encoded(self):
         net = self.net
-        bits = bit_string(int(net[0]) >> (net.max_prefixlen - net.prefixlen), net.prefixlen)
-        return seq(bits, b"" if self.most is None else integer(self.most))
+        prefix = bit_string(int(net[0]) >> (net.max_prefixlen - net.prefixlen), net.prefixlen)
+        return seq(prefix, b"" if self.most is None else integer(self.most))
 
 
 def addresses(texts):
@@ -478,7 +440,7 @@ def aspas():
 
 
 def manifest(number, files):
-    listed_files = (seq(tlv(22, name), tlv(3, b"\0" + digest)) for name, digest in files)
+    listed_files = (seq(tlv(22, name), bits(digest)) for name, digest in files)
     return seq(integer(number), tlv(24, b"20250101000000Z"), tlv(24, b"20250102000000Z"), oid("2.16.840.1.101.3.4.2.1"), seq(*listed_files))
 
 

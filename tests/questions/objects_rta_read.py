@@ -1,5 +1,4 @@
-#!/usr/bin/env python3
-"""Resource tagged attestations that are read, for tests/questions/attestations_cases.py.
+"""Questions about resource tagged attestations that are read, for tests/questions/objects.py.
 
 Documents are made of named parts, of which one is another, or are good ones of which one value is left out, doubled, moved, or
 spelled otherwise. What is read of them is told by tests/lib/rpki_attestations.py; of the worked cases, and of what is good and what
@@ -7,19 +6,14 @@ isn't, it is known by hand. The signer is that of rpki_repositories.py: the dige
 """
 
 import hashlib
-import pathlib
 import random
-import sys
 
-sys.dont_write_bytecode = True
-sys.path.insert(0, str(pathlib.Path(__file__).resolve().parents[1] / "lib"))
-
-import rpki_repositories as world  # noqa: E402
-from objects_rsc_cases import TEXTS, V4, V6, blocks, family, ip_part, nest, numbers  # noqa: E402
-from rpki_attestations import Attestation, MultiObject, Said  # noqa: E402
-from rpki_readers import Refused, front  # noqa: E402
-from rpki_relaxed import indefinite, long, nested, segments, spelled, spelled_by_chance  # noqa: E402
-from rpki_repositories import NULL, SHA256, bits, integer, oid, seq, tlv  # noqa: E402
+import rpki_repositories as world
+from objects_rsc import TEXTS, V4, V6, blocks, family, ip_part, nest, numbers
+from rpki_attestations import Attestation, MultiObject, Said
+from rpki_readers import Refused, front
+from rpki_relaxed import indefinite, long, nested, segments, spelled, spelled_by_chance
+from rpki_repositories import NULL, SHA256, bits, integer, oid, seq, tlv
 
 ATTESTATION = "1.2.840.113549.1.9.16.1.36"
 SIGNED_DATA = "1.2.840.113549.1.7.2"
@@ -716,7 +710,6 @@ class Asked:
         answer = answer_of(before + b"\x24\x80" * 10_000 + piece + b"\0\0" * 10_000 + behind, "relaxed")
         assert answer != "refused"
         self.q.ask(answer, "read", "relaxed", f"{before.hex()}+2480*10000+{piece.hex()}+0000*10000+{behind.hex()}")
-
 
     def contents(self):
         """Contents by themselves: good ones, others, and fronts of one."""

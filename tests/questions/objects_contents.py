@@ -1,55 +1,22 @@
-#!/usr/bin/env python3
-"""Writes the questions and answers of crates/objects_cases: tests/questions/objects_cases.py [--all]
+"""Questions about what signed objects have in them, for tests/questions/objects.py: contents of ROAs, ASPAs and manifests.
 
-What signed objects have in them, and locators, are read here by the grammars in this script's own words, over the reader of
-X.690 in certs_signed_cases.py; the worked cases have their answers by hand. Questions about certificates, their parts and
-revocation lists are those of certs_cases.py, and those about checklists, with --all by all pairs of defects, those of
-objects_rsc_cases.py. The gate runs the program on `stdin`, and compares what it prints with `stdout`.
+They are read by the grammars in this script's own words, over the reader of X.690 in certificates_x690.py; the worked cases have
+their answers by hand.
 """
 
 import calendar
 import ipaddress
-import pathlib
 import random
 import re
-import sys
 
-sys.dont_write_bytecode = True
-sys.path.insert(0, str(pathlib.Path(__file__).resolve().parents[1] / "lib"))
+from certificates_signed import RSA, SHA256, SHA256_RSA
+from certificates_x690 import Refused, bits_of, content_of, need, parts_of, value
+from rpki_repositories import bits, integer, seq, tlv
 
-from certs_cases import certificates  # noqa: E402
-from certs_signed_cases import RSA, SHA256, SHA256_RSA, Refused, bits_of, content_of, need, parts_of, tlv, value  # noqa: E402
-from objects_again_cases import written  # noqa: E402
-from objects_built_cases import build  # noqa: E402
-from objects_locator_cases import locators  # noqa: E402
-from objects_rsc_cases import checklists  # noqa: E402
-from objects_signed_cases import signed  # noqa: E402
-
-FOLDER = pathlib.Path(__file__).resolve().parents[2] / "crates" / "objects_cases"
 rng = random.Random(9582)
 
 
-class Questions:
-    def __init__(self):
-        self.rows = []
-
-    def ask(self, answer, *words):
-        self.rows.append(("\t".join(words), answer))
-
-
 # Writers.
-
-
-def seq(*parts):
-    return tlv(0x30, b"".join(parts))
-
-
-def integer(n):
-    return tlv(2, n.to_bytes(n.bit_length() // 8 + 1, "big"))
-
-
-def bits(octets, unused=0):
-    return tlv(3, bytes([unused]) + octets)
 
 
 def version(n):
@@ -303,22 +270,6 @@ def aspas(q):
     q.ask("refused", "aspa", "3080*10000")
 
 
-def main():
-    q = Questions()
-    aspas(q)
-    roas(q)
-    manifests(q)
-    locators(q)
-    signed(q, answer_of)
-    written(q, answer_of, NAME.fullmatch)
-    build(q)
-    checklists(q, "--all" in sys.argv)
-    certificates(q)
-    (FOLDER / "stdin").write_text("".join(f"{question}\n" for question, _ in q.rows))
-    (FOLDER / "stdout").write_text("".join(f"{answer}\n" for _, answer in q.rows))
-    print(len(q.rows), "questions")
-
-
 def roas(q):
     one = bytes([192, 0, 2])
     for greatest, told in ((23, None), (24, 24), (32, 32), (33, None), (255, None), (256, None)):
@@ -438,5 +389,8 @@ def manifests(q):
     q.ask("refused", "manifest", "read", seq(*fields[:4], nested(10000)).hex())
 
 
-if __name__ == "__main__":
-    main()
+def contents(q):
+    """Asks all."""
+    aspas(q)
+    roas(q)
+    manifests(q)

@@ -1,10 +1,12 @@
-"""Questions about trust anchor locators, for tests/questions/objects_cases.py (RFC 8630 2.2)."""
+"""Questions about trust anchor locators, for tests/questions/objects.py (RFC 8630 2.2)."""
 
 import base64
 import random
 import re
 
-from certs_signed_cases import RSA, Refused, bits_of, content_of, need, parts_of, tlv, value
+from certificates_signed import RSA
+from certificates_x690 import Refused, bits_of, content_of, need, parts_of, value
+from rpki_repositories import seq, tlv
 
 rng = random.Random(8630)
 
@@ -15,10 +17,6 @@ EOF, BAD_URI, BAD_ENCODING, BAD_KEY = "unexpected end of file", "bad trust ancho
 
 class Fault(Exception):
     pass
-
-
-def seq(*parts):
-    return tlv(0x30, b"".join(parts))
 
 
 def key_of(data):

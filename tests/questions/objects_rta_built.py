@@ -1,5 +1,5 @@
 """Questions about resource tagged attestations that are written again, and about those that are put together and signed, for
-tests/questions/attestations_cases.py.
+tests/questions/objects.py.
 
 What is written is spelled here from the parts that tests/lib/rpki_attestations.py reads, or that a question names, by the grammar of
 RFC 5652 3 and 5 and of the profile: what is signed as it stood, all else in DER, sets of numbers by RFC 3779. The signer is that of
@@ -9,10 +9,10 @@ rpki_repositories.py: the digest of the key's bits and the message.
 import hashlib
 import ipaddress
 
-import objects_built_cases as built
-import objects_rta_cases as read
+import objects_built as built
+import objects_rta_read as read
 import rpki_readers as der
-from objects_rta_cases import ATTESTATION, CERTS, FIRST, GOOD, LARGE, LISTS, MAKER, SECOND, THIRD, attribute, made, signer
+from objects_rta_read import ATTESTATION, CERTS, FIRST, GOOD, LARGE, LISTS, MAKER, SECOND, THIRD, attribute, made, signer
 from objects_rta_documents import ALONE, APART, SHORT, TREE
 from rpki_attestations import Attestation, Said
 from rpki_readers import Refused, front, joined

@@ -1,16 +1,17 @@
-"""Questions about what is written of signed objects, for tests/questions/objects_cases.py.
+"""Questions about what is written of signed objects, for tests/questions/objects.py.
 
-Objects are made and read by objects_signed_cases.py. What is written of them is put together here from the parts that were
+Objects are made and read by objects_signed.py. What is written of them is put together here from the parts that were
 read, by the grammar of RFC 5652 3 and 5: what is signed as it stood, all else in DER. Objects in DER whose algorithms have NULL
 where they are written with it are written as the very octets that were read.
 """
 
 import ipaddress
 
-import objects_signed_cases as signed
+import objects_signed as signed
 import rpki_readers as der
 import rpki_repositories as world
-from objects_signed_cases import KINDS, Object, Refused, front, header, made, need, respelled
+from objects_contents import NAME, answer_of
+from objects_signed import KINDS, Object, Refused, front, header, made, need, respelled
 from rpki_repositories import NULL, RSA, SHA256, bits, integer, oid, seq, tlv
 
 
@@ -63,8 +64,8 @@ class Parts:
 
 
 class Questions:
-    def __init__(self, q, answer_of, is_name):
-        self.ask, self.answer_of, self.is_name, self.messages = q.ask, answer_of, is_name, set()
+    def __init__(self, q):
+        self.ask, self.messages = q.ask, set()
 
     def parts(self, how, octets):
         try:
@@ -75,7 +76,7 @@ class Questions:
     def again(self, how, kind, octets, same=None):
         """Asks what is written of an object; `same` where it has to be the octets that were read."""
         parts = self.parts(how, octets)
-        if parts and kind != "any" and (parts.kind != KINDS[kind] or self.answer_of(kind, parts.content) == "refused"):
+        if parts and kind != "any" and (parts.kind != KINDS[kind] or answer_of(kind, parts.content) == "refused"):
             parts = None
         if parts is None:
             answer = "refused"
@@ -186,7 +187,7 @@ def made_manifests(q):
     digest = bytes(range(32))
 
     def make(number, updates, files):
-        good = all(q.is_name(name) for name, _ in files)
+        good = all(NAME.fullmatch(name) for name, _ in files)
         answer = "x" + world.manifest(number, updates, files).hex() if good else "invalid file name"
         q.ask(answer, "make", str(number), *(text.decode() for text in updates), *(f"{name.hex()}={hash.hex()}" for name, hash in files))
 
@@ -213,7 +214,7 @@ def addresses(q):
         lists = [seq(*map(entry, texts or [])) for texts in families]
         blocks = [seq(tlv(4, kind), some) for kind, texts, some in zip(world.FAMILIES.values(), families, lists) if texts is not None]
         content = seq(integer(64496), seq(*blocks))
-        good = q.answer_of("roa", content) != "refused"
+        good = answer_of("roa", content) != "refused"
         told = [f"x{some.hex()}" for some in lists]
         for some in families:
             nets = [ipaddress.ip_network(text.partition("-")[0]) for text in some or []]
@@ -238,10 +239,10 @@ def addresses(q):
     ask([f"10.{at}.0.0/16" for at in range(256)], [f"2001:db8:{at:x}::/48-64" for at in range(256)])
 
 
-def written(q, answer_of, is_name):
-    """Asks all. What a content is told as is `answer_of(KIND, CONTENT)`; which names a manifest may list, `is_name(NAME)`."""
+def written(q):
+    """Asks all."""
     signed.rng.seed(6488)
-    q = Questions(q, answer_of, is_name)
+    q = Questions(q)
     objects(q)
     messages(q)
     files(q)

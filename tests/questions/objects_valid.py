@@ -1,4 +1,4 @@
-"""Questions about validated objects, for tests/questions/bundles_cases.py: one trust anchor, and objects below it that have defects.
+"""Questions about validated objects, for tests/questions/validator.py: one trust anchor, and objects below it that have defects.
 
 What is answered follows from the defects by the order of the tests (RFC 6487 4 and 7.2, RFC 6488 3, RFC 9582 5, the ASPA draft
 4): the first that fails. The signer is that of rpki_repositories.py, whose good signatures stand in the table of a bundle, and
@@ -9,7 +9,7 @@ import hashlib
 import itertools
 
 import rpki_repositories as world
-from certs_parts import TEXTS
+from certificates_parts import TEXTS
 from rpki_repositories import RSA, SHA256, bits, integer, oid, seq, tlv
 
 EARLY, LATE = b"20231231235959Z", b"20260101000001Z"

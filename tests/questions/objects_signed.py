@@ -1,4 +1,4 @@
-"""Questions about signed objects, for tests/questions/objects_cases.py.
+"""Questions about signed objects, for tests/questions/objects.py.
 
 A value is read here by X.690 8.1 to 8.14, in BER or in DER (10), then compared with the grammar of RFC 5652 3 and 5, RFC 6488 2
 and RFC 6019, and its certificate with that of RFC 6487 4, all in one mode; the contents of extensions are DER in both, and read
@@ -6,11 +6,12 @@ by rpki_readers.py. Objects are made of named parts, of which one is another, an
 """
 
 import hashlib
-import pathlib
 import random
 
 import rpki_readers as der
+import rpki_relaxed
 import rpki_repositories as world
+from objects_contents import answer_of
 from rpki_repositories import NULL, RSA, SHA256, bits, integer, oid, seq, tlv
 
 rng = random.Random(6488)
@@ -220,31 +221,27 @@ def word(fact):
 KINDS = {"manifest": der.MANIFEST, "roa": der.ROA, "aspa": der.ASPA}
 
 
-class Answers:
+def read(how, kind, octets):
     """What is read of octets, by this reader and by that of contents."""
+    try:
+        made = Object(octets, how == "relaxed")
+        need(kind in ("any", "parts") or made.kind == KINDS[kind])
+    except Refused:
+        return "refused"
+    told = " ".join(map(word, made.told))
+    if kind == "any":
+        return told
+    if kind == "parts":  # what is handed over: both times stand in the attributes
+        return " ".join(map(word, made.told[:2] + made.told[4:]))
+    content = answer_of(kind, made.content)
+    return content if content == "refused" else f"{told} {content}"
 
-    def __init__(self, of_content):
-        self.of_content = of_content
 
-    def of(self, how, kind, octets):
-        try:
-            made = Object(octets, how == "relaxed")
-            need(kind in ("any", "parts") or made.kind == KINDS[kind])
-        except Refused:
-            return "refused"
-        told = " ".join(map(word, made.told))
-        if kind == "any":
-            return told
-        if kind == "parts":  # what is handed over: both times stand in the attributes
-            return " ".join(map(word, made.told[:2] + made.told[4:]))
-        content = self.of_content(kind, made.content)
-        return content if content == "refused" else f"{told} {content}"
-
-    def of_all(self, how, kind, rows):
-        answers = [self.of(how, kind, octets) for octets in rows]
-        text = "".join(f"{answer}\n" for answer in answers)
-        marks = "".join("-" if answer == "refused" else "x" for answer in answers)
-        return f"{marks} x{hashlib.sha256(text.encode()).hexdigest()}"
+def read_all(how, kind, rows):
+    answers = [read(how, kind, octets) for octets in rows]
+    text = "".join(f"{answer}\n" for answer in answers)
+    marks = "".join("-" if answer == "refused" else "x" for answer in answers)
+    return f"{marks} x{hashlib.sha256(text.encode()).hexdigest()}"
 
 
 # Objects of named parts.
@@ -253,6 +250,8 @@ CONTENTS = {"roa": (world.ROA, world.roa(64496, "192.0.2.0/24-25"), {"ipv4": ["1
             "aspa": (world.ASPA, world.aspa(64496, 64497, 64499), {"as": [64496]}),
             "manifest": (world.MANIFEST, world.manifest(7, (world.FIRST, world.LAST), [(b"a.roa", bytes(range(32)))]), world.INHERITS)}
 MAKER = world.World()
+# Places of the digest's algorithm.
+DIGESTS = ((*rpki_relaxed.SIGNED_DATA, 1, 0), (*rpki_relaxed.SIGNER, 2))
 
 
 def attribute(kind, *values):
@@ -517,12 +516,11 @@ INHERIT = {"as": "inherit"}
 # Questions.
 
 
-def signed(q, of_content):
-    """Asks all questions; the answers about contents are of_content's."""
-    answers = Answers(of_content)
+def signed(q):
+    """Asks all."""
 
     def ask(how, kind, octets, expected=None):
-        answer = answers.of(how, kind, octets)
+        answer = read(how, kind, octets)
         assert expected is None or (answer == "refused") == (expected == "refused"), (how, kind, octets.hex())
         q.ask(answer, "object", how, kind, octets.hex())
         return answer
@@ -552,8 +550,8 @@ def signed(q, of_content):
     contents(ask)
     lengths(ask)
     worked(ask)
-    deep(q, answers)
-    rows(q, answers)
+    deep(q)
+    rows(q)
     for what in CONTENTS:
         octets = made(what)
         for way in (octets, respelled(octets), octets + b"behind", octets[:-1]):
@@ -585,23 +583,31 @@ def lengths(ask):
 
 
 def worked(ask):
-    """The objects in BER of the worked cases."""
-    for row in (pathlib.Path(__file__).parent / "objects_ber.txt").read_text().splitlines():
-        kind, digits = row.split()
-        ask("strict", kind, bytes.fromhex(digits), "refused")
-        ask("relaxed", kind, bytes.fromhex(digits), "read")
-        ask("relaxed", "any", bytes.fromhex(digits), "read")
+    """A ROA, and the manifest that lists it, in BER: the outer SEQUENCE of each is of no stated length, and the content of the ROA stands
+    in two segments; behind SHA-256 stands NULL."""
+    held = {"ipv4": ["192.0.2.0/24"]}
+    anchor = MAKER.anchor(1, held)
+    with_null = dict.fromkeys(DIGESTS, lambda first, octets: tlv(first, octets, NULL))
+    ways = {(): rpki_relaxed.indefinite, **with_null}
+    roa = anchor.signed(world.ROA, world.roa(64496, "192.0.2.0/24"), b"a.roa", held, key=1001, serial=11)
+    anchor.files[b"a.roa"] = rpki_relaxed.spelled(roa, {**ways, rpki_relaxed.CONTENT: rpki_relaxed.FIRST_CUT})
+    anchor.publish(key=1002, serial=12)
+    manifest = rpki_relaxed.spelled(MAKER.objects[anchor.manifest], ways)
+    for kind, octets in (("roa", anchor.files[b"a.roa"]), ("manifest", manifest)):
+        ask("strict", kind, octets, "refused")
+        ask("relaxed", kind, octets, "read")
+        ask("relaxed", "any", octets, "read")
 
 
 MARK = tlv(4, b"the mark")
 
 
-def deep(q, answers):
+def deep(q):
     """Ten thousand values in each other, where any value may stand, and where a string may be in segments."""
 
     def ask(how, octets, before, within, after):
         inner = b"".join(bytes.fromhex(piece) * count for piece, count in (before, within, after))
-        expected = answers.of(how, "any", octets.replace(MARK, inner))
+        expected = read(how, "any", octets.replace(MARK, inner))
         pieces = "+".join(f"{piece}*{count}" for piece, count in (before, within, after) if count)
         q.ask(expected, "object", how, "any", pieces.join(half.hex() for half in octets.split(MARK)).replace(pieces, f"+{pieces}+"))
         return expected
@@ -622,14 +628,14 @@ def deep(q, answers):
         for how in ("strict", "relaxed"):
             plain = made("roa", **{name: value.replace(MARK, inner) if value == MARK else seq(tlv(0x31, seq(oid("2.5.4.3"),
                 inner))) if value == named else attribute("4", inner)})
-            q.ask(answers.of(how, "any", plain), "object", how, "any", plain.hex())
+            q.ask(read(how, "any", plain), "object", how, "any", plain.hex())
     for word_of in ("3080*10000", "2480*10000", "30*10000", "3084ffffffff*10000", "a080*10000", ""):
         for how in ("strict", "relaxed"):
             for kind in ("any", *KINDS):
                 q.ask("refused", "object", how, kind, word_of)
 
 
-def rows(q, answers):
+def rows(q):
     """Each octet changed, in each of its bits; and each proper front."""
     small = made("roa")
     for octets in (small, respelled(small)):
@@ -638,8 +644,8 @@ def rows(q, answers):
                 continue
             for bit in range(8):
                 changed = [octets[:at] + bytes([octets[at] ^ 1 << bit]) + octets[at + 1 :] for at in range(len(octets))]
-                q.ask(answers.of_all(how, "roa", changed), "object", "flips", str(1 << bit), how, "roa", octets.hex())
+                q.ask(read_all(how, "roa", changed), "object", "flips", str(1 << bit), how, "roa", octets.hex())
             cut = [octets[:at] for at in range(len(octets))]
-            told = answers.of_all(how, "any", cut)
+            told = read_all(how, "any", cut)
             assert "x" not in told.split()[0]
             q.ask(told, "object", "cuts", how, "any", octets.hex())

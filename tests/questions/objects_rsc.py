@@ -1,49 +1,27 @@
-#!/usr/bin/env python3
-"""Signed checklists that crates/objects_cases is asked about, for tests/questions/objects_cases.py.
+"""Questions about signed checklists, for tests/questions/objects.py.
 
 Contents of signed checklists are read here by RFC 9323 4 and RFC 3779 in this script's own words, over the reader of X.690 in
-certs_signed_cases.py; what is said of checklists that are processed follows from their defects by the order of the tests
-(RFC 6488 3, RFC 9323 5), as in objects_valid_cases.py. The worked case `rsc` has its answer by hand.
+certificates_x690.py; what is said of checklists that are processed follows from their defects by the order of the tests
+(RFC 6488 3, RFC 9323 5), as in objects_valid.py. The worked case `rsc` has its answer by hand.
 """
 
 import hashlib
 import ipaddress
 import itertools
-import pathlib
 import random
-import sys
 
-sys.dont_write_bytecode = True
-sys.path.insert(0, str(pathlib.Path(__file__).resolve().parents[1] / "lib"))
-
-import objects_valid_cases as valid  # noqa: E402
-import rpki_repositories as world  # noqa: E402
-from certs_signed_cases import SHA256, Refused, bits_of, content_of, has_null, need, parts_of, value  # noqa: E402
-from rpki_repositories import bits, integer, oid, seq, tlv  # noqa: E402
+import objects_valid as valid
+import rpki_repositories as world
+from certificates_signed import SHA256, has_null
+from certificates_x690 import Refused, bits_of, content_of, need, parts_of, value
+from objects_contents import WIDTHS, number_of
+from rpki_repositories import bits, integer, oid, seq, tlv
 
 CHECKLIST = "1.2.840.113549.1.9.16.1.48"
 rng = random.Random(9323)
 
 
-class Behind:
-    """Asks each question behind a word."""
-
-    def __init__(self, q, word):
-        self.q, self.word = q, word
-
-    def ask(self, answer, *words):
-        self.q.ask(answer, self.word, *words)
-
-
 # The reader (RFC 9323 4).
-
-
-def number_of(item, below):
-    content = content_of(item, 2)
-    need(content and not (len(content) > 1 and content[0] in (0, 255) and content[0] >> 7 == content[1] >> 7))
-    n = int.from_bytes(content, "big", signed=True)
-    need(0 <= n < below)
-    return n
 
 
 def within(item, number):
@@ -93,9 +71,6 @@ def ip_block(item, width):
     first, last = ends_of(parts[0], width)[0], ends_of(parts[1], width)[1]
     need(first <= last)
     return first, last
-
-
-WIDTHS = {b"\0\1": 32, b"\0\2": 128}
 
 
 def stated_of(item):
@@ -557,11 +532,10 @@ ANCHOR = valid.MAKER.objects[valid.ISSUER.at]
 
 
 class Signed:
-    """Questions about signed checklists: each is processed at a moment, and some by a clock. `whole` asks about all pairs of
-    defects."""
+    """Questions about signed checklists: each is processed at a moment, and some by a clock."""
 
-    def __init__(self, q, whole):
-        self.q, self.whole = q, whole
+    def __init__(self, q):
+        self.q = q
 
     def one(self, answer, how="strict", both=False, **parts):
         octets = Made(place=parts.pop("place", b""), **parts).octets()
@@ -589,8 +563,7 @@ class Signed:
         for defect in DEFECTS:
             self.one(defect.answer(), both="moment" in defect.parts or "test" in defect.parts, **defect.parts)
         # of two defects of different parts the first is reported
-        pairs = itertools.combinations(DEFECTS, 2) if self.whole else valid.neighbours(DEFECTS)
-        for first, second in pairs:
+        for first, second in itertools.combinations(DEFECTS, 2):
             if not first.parts.keys() & second.parts.keys():
                 self.one(first.answer(), **first.parts, **second.parts)
         for parts in OTHERS:
@@ -635,12 +608,11 @@ def files(q):
             q.ask(f"{words} {words}", "file", "-" if name is None else name.hex(), digest.hex())
 
 
-def checklists(q, whole=False):
+def checklists(q):
     """Asks all."""
-    q = Behind(q, "rsc")
     contents(q)
     files(q)
-    signed = Signed(q, whole)
+    signed = Signed(q)
     signed.ask()
     signed.read()
     signed.sound()
