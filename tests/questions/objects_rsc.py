@@ -10,8 +10,8 @@ import ipaddress
 import itertools
 import random
 
-import validator_objects as valid
 import rpki_repositories as world
+import validator_objects as valid
 from certificates_signed import SHA256, has_null
 from certificates_x690 import Refused, bits_of, content_of, need, parts_of, value
 from objects_contents import WIDTHS, number_of
