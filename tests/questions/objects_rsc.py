@@ -2,7 +2,7 @@
 
 Contents of signed checklists are read here by RFC 9323 4 and RFC 3779 in this script's own words, over the reader of X.690 in
 certificates_x690.py; what is said of checklists that are processed follows from their defects by the order of the tests
-(RFC 6488 3, RFC 9323 5), as in objects_valid.py. The worked case `rsc` has its answer by hand.
+(RFC 6488 3, RFC 9323 5), as in validator_objects.py. The worked case `rsc` has its answer by hand.
 """
 
 import hashlib
@@ -10,8 +10,8 @@ import ipaddress
 import itertools
 import random
 
-import objects_valid as valid
 import rpki_repositories as world
+import validator_objects as valid
 from certificates_signed import SHA256, has_null
 from certificates_x690 import Refused, bits_of, content_of, need, parts_of, value
 from objects_contents import WIDTHS, number_of
