@@ -3,7 +3,7 @@
 
 Contents of signed checklists are read here by RFC 9323 4 and RFC 3779 in this script's own words, over the reader of X.690 in
 certs_signed_cases.py; what is said of checklists that are processed follows from their defects by the order of the tests
-(RFC 6488 3, RFC 9323 5), as in objects_valid_cases.py. The worked case `rsc` has its answer by hand.
+(RFC 6488 3, RFC 9323 5), as in validator_objects.py. The worked case `rsc` has its answer by hand.
 """
 
 import hashlib
@@ -16,8 +16,8 @@ import sys
 sys.dont_write_bytecode = True
 sys.path.insert(0, str(pathlib.Path(__file__).resolve().parents[1] / "lib"))
 
-import objects_valid_cases as valid  # noqa: E402
 import rpki_repositories as world  # noqa: E402
+import validator_objects as valid  # noqa: E402
 from certs_signed_cases import SHA256, Refused, bits_of, content_of, has_null, need, parts_of, value  # noqa: E402
 from rpki_repositories import bits, integer, oid, seq, tlv  # noqa: E402
 

@@ -1,4 +1,4 @@
-"""Questions about validated objects, for tests/questions/bundles_cases.py: one trust anchor, and objects below it that have defects.
+"""Questions about validated objects, for tests/questions/rpki_places.py: one trust anchor, and objects below it that have defects.
 
 What is answered follows from the defects by the order of the tests (RFC 6487 4 and 7.2, RFC 6488 3, RFC 9582 5, the ASPA draft
 4): the first that fails. The signer is that of rpki_repositories.py, whose good signatures stand in the table of a bundle, and
