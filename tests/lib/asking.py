@@ -1,6 +1,6 @@
 """Questions to the program of tests/program: who knows the answers asks it through a pipe, and compares line by line.
 
-A script of tests/questions has the questions of a member, each beside its answer, and ends with `asking.main(MEMBER, questions)`.
+A script of tests/questions has the questions of a member, each beside its answer, and ends with `asking.main(questions)`.
 """
 
 import concurrent.futures
@@ -42,11 +42,12 @@ def short(line):
     return line if len(line) <= SHOWN else f"{line[:SHOWN]}.. ({len(line)} characters)"
 
 
-def compare(program, rows, data=None):
+def compare(program, rows, lay=None):
     """Asks the program, and prints each question that was answered otherwise, what came and what was wanted; how many answers were right,
-    and how many weren't. The program runs in a copy of the data folder, where there is one, and as nobody where this is root."""
+    and how many weren't. The program runs in a folder of its own, in which `lay` lays what it finds there, and as nobody where this is
+    root."""
     rows, passed, failed = list(rows), 0, 0
-    with programs.apart(program, data) as (copy, folder, drop):
+    with programs.apart(program, lay) as (copy, folder, drop):
         how = {"cwd": folder, "stdin": subprocess.PIPE, "stdout": subprocess.PIPE, "stderr": subprocess.PIPE, "env": programs.environment(folder)}
         with subprocess.Popen([*drop, copy], **how) as run, concurrent.futures.ThreadPoolExecutor(2) as pool:
             pool.submit(give, run, (f"{question}\n".encode() for question, _ in rows))
@@ -67,8 +68,8 @@ def compare(program, rows, data=None):
 
 
 def main(questions, lay=None):
-    """The command of a member's script: `SCRIPT PROGRAM` asks its questions, `SCRIPT --count` tells how many there are. `lay` makes what
-    the program finds in the folder that it runs in."""
+    """The command of a member's script: `SCRIPT PROGRAM` asks its questions, `SCRIPT --count` tells how many there are. `lay` lays
+    what the program finds into the folder that it is given."""
     if len(sys.argv) != 2:
         sys.exit(f"usage: {os.path.basename(sys.argv[0])} PROGRAM | --count")
     rows = list(questions())

@@ -1,35 +1,42 @@
-"""What tests/questions/bundles_cases.py and rpki_cases.py share: rows of questions, and the octets that both ask about.
+"""What scripts that ask the validator share: their rows of questions, and the octets that several of them ask about.
 
-Bundles are written and read by tests/lib/rpki_bundles.py.
+Bundles are written and read by tests/lib/rpki_bundles.py, and what `check` prints of one is tests/lib/rpki_model.py's.
 """
 
 import hashlib
 
+import asking
+import rpki_model
 from rpki_bundles import bundle, read
 from rpki_repositories import tlv
 
 SEED = 6487
 HEAD = "02 01 00 18 0F 32 30 32 35 30 31 30 31 30 30 30 30 30 30 5A"
 NO_BUNDLE = "not a bundle"
+MANY = "4000000000"
 
 
 def shown(octets):
     return octets.hex() if len(octets) <= 200 else f"{len(octets)}octets{hashlib.sha256(octets).hexdigest()}"
 
 
-class Rows:
-    """Questions beside their answers."""
+def outcome(octets):
+    """Exit status, lines and faults of `check`."""
+    lines = rpki_model.answer(octets)
+    assert (lines is None) == (read(octets) is None), octets.hex()
+    return (1, "", NO_BUNDLE + "|") if lines is None else (0, "".join(f"{line}|" for line in lines), "")
+
+
+class Questions(asking.Questions):
+    """Questions to the validator, of runs of `check`, too."""
 
     def __init__(self):
-        self.rows = []
+        super().__init__("validator")
 
-    def ask(self, answer, *words):
-        self.rows.append(("\t".join(words), answer))
-
-    def write(self, questions, answers):
-        """Writes the questions into a file, and their answers into another one."""
-        for path, lines in zip((questions, answers), zip(*self.rows)):
-            path.write_text("".join(f"{line}\n" for line in lines))
+    def check(self, octets, reader=(MANY, MANY), writer=(MANY, MANY, "fails"), room=MANY, wanted=None):
+        """Asks what `check` does with octets, by a reader, a writer, and a writer of faults that has so much room."""
+        status, lines, faults = wanted or outcome(octets)
+        self.ask(f"{status} [{lines}] [{faults}]", "check", octets.hex(), *reader, *writer, room)
 
 
 # Octets.

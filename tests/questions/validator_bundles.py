@@ -1,26 +1,14 @@
-#!/usr/bin/env python3
-"""Writes the questions and answers of crates/bundles_cases: tests/questions/bundles_cases.py
+"""Questions about bundles, moments and URIs, for tests/questions/validator.py: bundles that are read, written again and made of parts.
 
-Bundles are written and read by tests/lib/rpki_bundles.py, by whose rules of URIs and moments what is asked of these is answered;
-points, validated objects and written contents are asked by rpki_places.py. The gate runs the program on `stdin`, and compares what
-it prints with `stdout`. A tab stands between the words of a question.
+Bundles are written and read by tests/lib/rpki_bundles.py, by whose rules of URIs and moments what is asked of these is answered.
 """
 
-import pathlib
 import random
-import sys
 
-sys.dont_write_bytecode = True
-sys.path.insert(0, str(pathlib.Path(__file__).resolve().parents[1] / "lib"))
-
-import rpki_places  # noqa: E402
-import rpki_walks  # noqa: E402
-from rpki_asked import EMPTY, NO_BUNDLE, ONE, ONE_OBJECT, SEED, TWO, Rows, all_octets, digest, long_ones, shown  # noqa: E402
-from rpki_bundles import bundle, is_date, is_key, is_lawful, lookup_key, read, uri_kind  # noqa: E402
-from rpki_repositories import MOMENT  # noqa: E402
-
-FOLDER = pathlib.Path(__file__).resolve().parents[2] / "crates" / "bundles_cases"
-rng = random.Random(SEED)
+import rpki_walks
+from rpki_bundles import bundle, is_date, is_key, is_lawful, lookup_key, read, uri_kind
+from rpki_repositories import MOMENT
+from validator_asked import EMPTY, NO_BUNDLE, ONE, ONE_OBJECT, SEED, TWO, all_octets, digest, long_ones, shown
 
 
 def told(octets):
@@ -45,7 +33,7 @@ def reading(q, octets):
         q.ask(f"{word} {shown(bundle(*read(octets)[:5], relaxed))}", "upgrade", word, octets.hex())
 
 
-def bundles(q):
+def bundles(q, rng):
     for octets in all_octets(rng):
         reading(q, octets)
     for octets, word in long_ones():
@@ -55,7 +43,7 @@ def bundles(q):
         reading(q, world.bundle())
 
 
-def get_and_parts(q):
+def get_and_parts(q, rng):
     held = [b"https://a/x", b"rsync://a/m/X", b"rsync://a/m/x", b"rsync://a/m/y", b"rsync://b/m/x"]
     octets = bundle(objects=[(uri, uri[::-1]) for uri in held], depth=1)
     spelled = held + [b"RSYNC://A/m/x", b"https://A/x", b"", b"https://a", b"rsync://a/m/z", b"rsync://c/m/x", b"rsync://a/M/x", b"x", b"http://a/x", b"rsync://a/m/x ", b"rsync://b/m/x/", b"rsync://a"]
@@ -105,7 +93,7 @@ def get_and_parts(q):
             q.ask(answer, "parts", MOMENT.decode(), str(depth), word(locators), word(objects), word(v), *said)
 
 
-def times(q):
+def times(q, rng):
     rows = [(2000, 2, 29, 1, 2, 3), (0, 1, 1, 0, 0, 0), (0, 2, 29, 0, 0, 0), (9999, 12, 31, 23, 59, 59), (1900, 2, 29, 0, 0, 0)]
     rows += [(2025, 2, 29, 0, 0, 0), (2100, 2, 29, 0, 0, 0), (2025, 0, 1, 0, 0, 0), (2025, 13, 1, 0, 0, 0), (2025, 1, 0, 0, 0, 0)]
     rows += [(2025, 1, 32, 0, 0, 0), (2025, 1, 1, 24, 0, 0), (2025, 1, 1, 0, 60, 0), (2025, 1, 1, 0, 0, 60), (10_000, 1, 1, 0, 0, 0)]
@@ -127,7 +115,7 @@ def times(q):
             q.ask(" ".join([order, str(one == other).lower(), str(one < other).lower()]), "order", one, other)
 
 
-def uris(q):
+def uris(q, rng):
     rows = [
         b"rsync://a/m", b"rsync://a/m/", b"RSYNC://R.Example/M/Ta", b"rsync://h?#@:%/m//x/../y", b"", b"rsync://", b"rsync:///m",
         b"rsync://h", b"rsync://h/", b"rsync://h//x", b"rsync:/h/m", b"https://h/m", b"rsync://h/m x", b"rsync://h/m\x7f",
@@ -151,13 +139,8 @@ def uris(q):
             q.ask(order, "compare", other.hex(), uri.hex())
 
 
-def main():
-    q = Rows()
-    for part in (bundles, get_and_parts, times, uris, rpki_places.questions):
-        part(q)
-    q.write(FOLDER / "stdin", FOLDER / "stdout")
-    print(len(q.rows), "questions")
-
-
-if __name__ == "__main__":
-    main()
+def questions(q):
+    """Asks all questions."""
+    rng = random.Random(SEED)
+    for part in (bundles, get_and_parts, times, uris):
+        part(q, rng)
