@@ -26,40 +26,28 @@ def integer(number):
     return value(0x02, number.to_bytes(number.bit_length() // 8 + 1, "big"))
 
 
-def tally(station, count, closed):
-    """X.690 8.9 and 11.1: a SEQUENCE of two INTEGERs and a BOOLEAN."""
-    truth = value(0x01, b"\xff" if closed else b"\0")
-    return value(0x30, integer(station) + integer(count) + truth)
+def tally(station, count):
+    """X.690 8.9: a SEQUENCE of two INTEGERs."""
+    return value(0x30, integer(station) + integer(count))
 
 
-TALLIES = [
-    (7, 1000, False),
-    (0, 0, True),
-    (127, 128, False),
-    (128, 127, True),
-    (255, 256, False),
-    (32768, 2**63, False),
-    (65535, 2**64 - 1, True),
-]
+TALLIES = [(7, 1000), (0, 0), (127, 127), (128, 255), (255, 32767), (32768, 2**63 - 1), (65535, 2**64 - 2)]
 
 # What is no tally, and where the value is that is missing or isn't whole.
-NO_TALLIES = [
-    ("", "no value (at position 0)"),
-    ("3009020107020203e80101", "no value (at position 9)"),
-    ("3007020107020203e8", "no value (at position 9)"),
-]
+NO_TALLIES = [("", "no value (at position 0)"), ("3005020107020203", "no value (at position 5)"), ("3003020107", "no value (at position 5)")]
 
 
 def codec():
-    for station, count, closed in TALLIES:
-        word = "closed" if closed else "open"
-        digits, text = tally(station, count, closed).hex(), f"station {station}: {count}, {word}"
-        yield f"write {station} {count} {word}", digits
-        yield f"read {digits}", text
+    for station, count in TALLIES:
+        digits, text = tally(station, count).hex(), f"station {station}: {count}, next {tally(station, count + 1).hex()}"
+        yield digits, text
         # What stands after a tally isn't read.
-        yield f"read {digits}00ff", text
+        yield f"{digits}00ff", text
+    # The greatest count is the last.
+    last = tally(1, 2**64 - 1).hex()
+    yield last, f"station 1: {2**64 - 1}, next {last}"
     for digits, text in NO_TALLIES:
-        yield f"read {digits}", f"refused: {text}"
+        yield digits, f"refused: {text}"
 
 
 def resources():
