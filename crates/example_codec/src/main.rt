@@ -63,13 +63,11 @@ impl Tally {
 // What the tally of a line says, and the octets of the next one.
 fn answer(alloc: Global, digits: &str) -> Result<String> {
     let octets = hex::decode(alloc, digits)?;
-    let Tally { station, count } = Tally::from_der(octets.as_slice())?;
-    let next = Tally {
-        station,
-        count: count.saturating_add(1),
-    };
-    let digits = hex::encode(alloc, next.to_der(alloc)?.as_slice())?;
-    Ok(format!(in alloc; "station {station}: {count}, next {digits}")?)
+    let tally = Tally::from_der(octets.as_slice())?;
+    let (station, count) = (tally.station, tally.count.saturating_add(1));
+    let next = Tally { station, count }.to_der(alloc)?;
+    let digits = hex::encode(alloc, next.as_slice())?;
+    Ok(format!(in alloc; "station {station}: {}, next {digits}", tally.count)?)
 }
 
 fn main(rt: HostRuntime) -> Result<()> {
