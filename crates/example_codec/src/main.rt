@@ -12,7 +12,6 @@ ghost use Rattle.example_codec.specs.bcder_content.Here.{here};
 ghost use Rattle.example_codec.specs.bcder_content.InMode.{ReadsFields};
 ghost use Rattle.example_codec.specs.Tallies.{IsReadAgain, tally, tally_body, tally_fields};
 
-use anyhow::Result;
 use bcder::decode::{Decode, DecodeError};
 use bcder::encode::{EncodeError, PrimitiveContent, Values, sequence};
 use bcder::{Captured, Mode};
@@ -61,7 +60,7 @@ impl Tally {
 }
 
 // What the tally of a line says, and the octets of the next one.
-fn answer(alloc: Global, digits: &str) -> Result<String> {
+fn answer(alloc: Global, digits: &str) -> anyhow::Result<String> {
     let octets = hex::decode(alloc, digits)?;
     let tally = Tally::from_der(octets.as_slice())?;
     let (station, count) = (tally.station, tally.count.saturating_add(1));
@@ -70,7 +69,7 @@ fn answer(alloc: Global, digits: &str) -> Result<String> {
     Ok(format!(in alloc; "station {station}: {}, next {digits}", tally.count)?)
 }
 
-fn main(rt: HostRuntime) -> Result<()> {
+fn main(rt: HostRuntime) -> anyhow::Result<()> {
     for line in rt.lines(rt.alloc()) {
         match answer(rt.alloc(), line?.as_str()) {
             Ok(text) => println!(rt; "{text}")?,
