@@ -10,18 +10,16 @@ ghost use Rattle.example_certificate.specs.Shown.{IsShown};
 
 use anyhow::Result;
 use certs::cert::{Cert, TbsCert};
-use certs::x509::Time;
+use certs::x509::{Rsync, Time};
 use resources::{AddressFamily, IpBlocksForFamily, IpResources};
 use std::alloc::Global;
-use std::fmt::Display;
 use std::str;
 
 /// The text YYYYMMDDHHMMSSZ of a moment.
 fn moment_text(alloc: Global, moment: Time) -> Result<String>
     ensures { IfOk result (λ text. IsMoment (string_bytes text) moment) }
 {
-    let text = moment.generalized();
-    Ok(str::from_utf8(text.as_slice())?.to_string(alloc)?)
+    Ok(str::from_utf8(moment.generalized().as_slice())?.to_string(alloc)?)
 }
 
 /// The addresses that are claimed, in order; `inherit` where they are the issuer's.
@@ -38,47 +36,35 @@ fn addresses(alloc: Global, family: AddressFamily, claimed: &IpResources) -> Res
     }
 }
 
-// Whose it is, when it is valid, and what it claims.
-fn show(rt: &HostRuntime, alloc: Global, tbs: &TbsCert) -> Result<()> {
+// Whose it is, by whom, from when to when, whether it is an authority's, and what it claims.
+fn show_fields(rt: &HostRuntime, tbs: &TbsCert) -> Result<()> {
     println!(rt; "serial number {}", tbs.serial_number())?;
-    println!(rt; "issuer {}", hex::encode(alloc, tbs.issuer().as_slice())?)?;
-    println!(rt; "subject {}", hex::encode(alloc, tbs.subject().as_slice())?)?;
-    println!(rt; "from {}", moment_text(alloc, tbs.validity().not_before())?)?;
-    println!(rt; "to {}", moment_text(alloc, tbs.validity().not_after())?)?;
+    let issuer = hex::encode(rt.alloc(), tbs.issuer().as_slice())?;
+    let subject = hex::encode(rt.alloc(), tbs.subject().as_slice())?;
+    println!(rt; "issuer {issuer}\nsubject {subject}")?;
     println!(rt; "key {}", tbs.subject_key_identifier())?;
-    let role = if tbs.is_ca() {
-        "authority"
-    } else {
-        "end entity"
-    };
-    println!(rt; "role {role}")?;
-    println!(rt;
-        "IPv4 {}",
-        addresses(alloc, AddressFamily::Ipv4, tbs.v4_resources())?
-    )?;
-    println!(rt;
-        "IPv6 {}",
-        addresses(alloc, AddressFamily::Ipv6, tbs.v6_resources())?
-    )?;
-    println!(rt; "AS {}", tbs.as_resources())?;
-    Ok(())
+    let from = moment_text(rt.alloc(), tbs.validity().not_before())?;
+    let to = moment_text(rt.alloc(), tbs.validity().not_after())?;
+    println!(rt; "from {from}\nto {to}\nauthority {}", tbs.is_ca())?;
+    let v4 = addresses(rt.alloc(), AddressFamily::Ipv4, tbs.v4_resources())?;
+    let v6 = addresses(rt.alloc(), AddressFamily::Ipv6, tbs.v6_resources())?;
+    Ok(println!(rt; "IPv4 {v4}\nIPv6 {v6}\nAS {}", tbs.as_resources())?)
 }
 
 // A URI, if it is there.
-fn show_uri<U: Display>(rt: &HostRuntime, what: &str, uri: Option<&U>) -> Result<()> {
-    match uri {
-        Some(uri) => println!(rt; "{what} {uri}")?,
-        None => {}
+fn show_uri(rt: &HostRuntime, what: &str, uri: Option<&Rsync>) -> Result<()> {
+    if let Some(uri) = uri {
+        println!(rt; "{what} {uri}")?;
     }
     Ok(())
 }
 
 // Shows the certificate of hexadecimal digits.
-fn answer(rt: &HostRuntime, digits: &str) -> Result<()> {
+fn show(rt: &HostRuntime, digits: &str) -> Result<()> {
     let octets = hex::decode(rt.alloc(), digits)?;
     let cert = Cert::decode(rt.alloc(), octets.as_slice())?;
-    show(rt, rt.alloc(), cert.tbs())?;
-    show_uri(rt, "list", cert.tbs().crl_uri())?;
+    show_fields(rt, cert.tbs())?;
+    show_uri(rt, "revocation list", cert.tbs().crl_uri())?;
     show_uri(rt, "repository", cert.tbs().ca_repository())?;
     show_uri(rt, "manifest", cert.tbs().rpki_manifest())?;
     show_uri(rt, "object", cert.tbs().signed_object())
@@ -86,7 +72,7 @@ fn answer(rt: &HostRuntime, digits: &str) -> Result<()> {
 
 fn main(rt: HostRuntime) -> Result<()> {
     for line in rt.lines(rt.alloc()) {
-        if let Err(error) = answer(&rt, line?.as_str()) {
+        if let Err(error) = show(&rt, line?.as_str()) {
             println!(rt; "refused: {error}")?;
         }
     }
