@@ -26,40 +26,28 @@ def integer(number):
     return value(0x02, number.to_bytes(number.bit_length() // 8 + 1, "big"))
 
 
-def tally(station, count, closed):
-    """X.690 8.9 and 11.1: a SEQUENCE of two INTEGERs and a BOOLEAN."""
-    truth = value(0x01, b"\xff" if closed else b"\0")
-    return value(0x30, integer(station) + integer(count) + truth)
+def tally(station, count):
+    """X.690 8.9: a SEQUENCE of two INTEGERs."""
+    return value(0x30, integer(station) + integer(count))
 
 
-TALLIES = [
-    (7, 1000, False),
-    (0, 0, True),
-    (127, 128, False),
-    (128, 127, True),
-    (255, 256, False),
-    (32768, 2**63, False),
-    (65535, 2**64 - 1, True),
-]
+TALLIES = [(7, 1000), (0, 0), (127, 127), (128, 255), (255, 32767), (32768, 2**63 - 1), (65535, 2**64 - 2)]
 
 # What is no tally, and where the value is that is missing or isn't whole.
-NO_TALLIES = [
-    ("", "no value (at position 0)"),
-    ("3009020107020203e80101", "no value (at position 9)"),
-    ("3007020107020203e8", "no value (at position 9)"),
-]
+NO_TALLIES = [("", "no value (at position 0)"), ("3005020107020203", "no value (at position 5)"), ("3003020107", "no value (at position 5)")]
 
 
 def codec():
-    for station, count, closed in TALLIES:
-        word = "closed" if closed else "open"
-        digits, text = tally(station, count, closed).hex(), f"station {station}: {count}, {word}"
-        yield f"write {station} {count} {word}", digits
-        yield f"read {digits}", text
+    for station, count in TALLIES:
+        digits, text = tally(station, count).hex(), f"station {station}: {count}, next {tally(station, count + 1).hex()}"
+        yield digits, text
         # What stands after a tally isn't read.
-        yield f"read {digits}00ff", text
+        yield f"{digits}00ff", text
+    # The greatest count is the last.
+    last = tally(1, 2**64 - 1).hex()
+    yield last, f"station 1: {2**64 - 1}, next {last}"
     for digits, text in NO_TALLIES:
-        yield f"read {digits}", f"refused: {text}"
+        yield digits, f"refused: {text}"
 
 
 def resources():
@@ -112,8 +100,56 @@ def checklists():
     yield "a.txt", "refused: not five words"
 
 
+def certificates():
+    """A trust anchor's certificate, one of an authority below it, and one of an object's signer, each with what it was made of."""
+    made = world.World()
+    names = {key: made.name(key).hex() for key in (1, 2, 3)}
+
+    def told(key, issuer, serial, from_to, is_ca, claims, uris):
+        lines = [
+            f"serial number {serial}",
+            f"issuer {names[issuer]}",
+            f"subject {names[key]}",
+            f"key {hashlib.sha1(world.key_bits(key)).hexdigest()}",
+            *(f"{word} {moment.decode()}" for word, moment in zip(("from", "to"), from_to)),
+            f"authority {str(is_ca).lower()}",
+            *(f"{word} {claimed}" for word, claimed in zip(("IPv4", "IPv6", "AS"), claims)),
+            *(f"{what} {uri.decode()}" for what, uri in uris),
+        ]
+        return "\n".join(lines)
+
+    claims = {"ipv4": ["192.0.2.0/25", "192.0.2.128/25", ("198.51.100.1", "198.51.100.9")], "ipv6": ["2001:db8::/32"], "as": [64496, (64497, 64511)]}
+    top = made.anchor(1, claims, serial=2**64)
+    shown = ("192.0.2.0/24, 198.51.100.1-198.51.100.9", "2001:db8::/32", "AS64496-AS64511")
+    uris = [("repository", top.folder), ("manifest", top.manifest)]
+    octets = made.objects[top.at]
+    yield octets.hex(), told(1, 1, 2**64, (world.FIRST, world.LAST), True, shown, uris)
+    # What stands after a certificate isn't read.
+    yield f"{octets.hex()}00", told(1, 1, 2**64, (world.FIRST, world.LAST), True, shown, uris)
+
+    below = made.authority(2, world.HOST + b"a/", b"a")
+    lasts = (b"20250101000000Z", b"20500101000000Z")
+    top.certify(b"a.cer", below, {"ipv4": "inherit", "as": "inherit"}, serial=1, validity=lasts)
+    uris = [("revocation list", top.crl), ("repository", below.folder), ("manifest", below.manifest)]
+    yield top.files[b"a.cer"].hex(), told(2, 1, 1, lasts, True, ("inherit", "", "inherit"), uris)
+
+    place = below.folder + b"o.roa"
+    parts = [*below.below(3, False), world.access((11, place)), world.policies(False), *world.claims_of({"ipv6": ["2001:db8::/48"]})]
+    octets = made.cert(3, 2, parts, serial=7)
+    uris = [("revocation list", below.crl), ("object", place)]
+    yield octets.hex(), told(3, 2, 7, (world.FIRST, world.LAST), False, ("", "2001:db8::/48", ""), uris)
+
+    yield "", "refused: no value (at position 0)"
+
+
 def main():
-    for name, rows in (("example_codec", codec()), ("example_resources", resources()), ("example_checklist", checklists())):
+    written = {
+        "example_codec": codec(),
+        "example_resources": resources(),
+        "example_certificate": certificates(),
+        "example_checklist": checklists(),
+    }
+    for name, rows in written.items():
         rows = list(rows)
         for file, at in (("stdin", 0), ("stdout", 1)):
             (CRATES / name / file).write_text("".join(row[at] + "\n" for row in rows))

@@ -12,20 +12,6 @@ use claims::outside;
 use resources::ResourceSet;
 use std::alloc::Global;
 
-// Holds a set from here on.
-fn hold(alloc: Global, held: &mut ResourceSet, set: ResourceSet) -> Result<String> {
-    *held = set;
-    Ok(format!(in alloc; "held {held}")?)
-}
-
-// The answer to a claim.
-fn claim(alloc: Global, held: &ResourceSet, claimed: ResourceSet) -> Result<String> {
-    match outside(alloc, held, &claimed)? {
-        None => Ok("inside".to_string(alloc)?),
-        Some(set) => Ok(format!(in alloc; "outside {set}")?),
-    }
-}
-
 // The answer to a line, which may change what is held.
 fn answer(alloc: Global, held: &mut ResourceSet, line: &str) -> Result<String> {
     let words: Vec<&str> = line.split('\t').collect(alloc)?;
@@ -34,25 +20,25 @@ fn answer(alloc: Global, held: &mut ResourceSet, line: &str) -> Result<String> {
     };
     let set = ResourceSet::from_strs(alloc, *asn, *ipv4, *ipv6)?;
     match *word {
-        "hold" => hold(alloc, held, set),
-        "claim" => claim(alloc, held, set),
+        "hold" => {
+            *held = set;
+            Ok(format!(in alloc; "held {held}")?)
+        }
+        "claim" => match outside(alloc, held, &set)? {
+            None => Ok("inside".to_string(alloc)?),
+            Some(set) => Ok(format!(in alloc; "outside {set}")?),
+        },
         _ => Err(anyhow!("neither 'hold' nor 'claim'")),
     }
-}
-
-// Prints the answer to a line.
-fn print(rt: &HostRuntime, held: &mut ResourceSet, line: &str) -> Result<()> {
-    match answer(rt.alloc(), held, line) {
-        Ok(text) => println!(rt; "{text}")?,
-        Err(error) => println!(rt; "refused: {error}")?,
-    }
-    Ok(())
 }
 
 fn main(rt: HostRuntime) -> Result<()> {
     let mut held = ResourceSet::empty();
     for line in rt.lines(rt.alloc()) {
-        print(&rt, &mut held, line?.as_str())?;
+        match answer(rt.alloc(), &mut held, line?.as_str()) {
+            Ok(text) => println!(rt; "{text}")?,
+            Err(error) => println!(rt; "refused: {error}")?,
+        }
     }
     Ok(())
 }
