@@ -395,12 +395,12 @@ def accesses(q):
     for kind, texts in itertools.product(made, lists):
         ascii = all(octet < 0x80 for text in texts for octet in text)
         found = [text for text in texts if is_uri("rsync", text)]
-        answer = found[0].decode() if ascii and len(found) == 1 else "refused: another value"
+        answer = found[0].decode() if ascii and len(found) == 1 else "refused: content"
         octets = made[kind](*map(name, texts))
         for mode in ("der", "ber"):
             q.ask(answer, "access", kind, mode, octets.hex())
         q.ask(answer, "access", kind, "der", (octets + b"\x00\xff").hex())  # octets behind the value aren't looked at
-        q.ask("refused: another value", "access", kind, "der", octets[:-1].hex())
+        q.ask("refused: content", "access", kind, "der", octets[:-1].hex())
     good = name(uri)
     segments = tlv(0xA6, tlv(0x04, uri[:5]) + tlv(0x04, uri[5:]))
     bad = {
@@ -422,15 +422,15 @@ def accesses(q):
     }
     for kind, rows in bad.items():
         for octets in rows:
-            q.ask("refused: another value", "access", kind, "der", octets.hex())
+            q.ask("refused: content", "access", kind, "der", octets.hex())
         # A constructed name is read in BER alone, and so is an indefinite length.
-        q.ask("refused: another value", "access", kind, "der", made[kind](segments).hex())
+        q.ask("refused: content", "access", kind, "der", made[kind](segments).hex())
         q.ask(uri.decode(), "access", kind, "ber", made[kind](segments).hex())
         octets = made[kind](good)
         open_ended = b"\x30\x80" + octets[2:] + b"\x00\x00"
-        q.ask("refused: another value", "access", kind, "der", open_ended.hex())
+        q.ask("refused: content", "access", kind, "der", open_ended.hex())
         q.ask(uri.decode(), "access", kind, "ber", open_ended.hex())
-        q.ask("refused: another value", "access", kind, "der", (b"\x30\x81" + octets[1:]).hex())
+        q.ask("refused: content", "access", kind, "der", (b"\x30\x81" + octets[1:]).hex())
         q.ask(uri.decode(), "access", kind, "ber", (b"\x30\x81" + octets[1:]).hex())
 
 

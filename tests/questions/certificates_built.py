@@ -1,7 +1,7 @@
 """Questions about certificates that are built, for tests/questions/certificates_roles.py.
 
 What is written is spelled here by X.690 8 and 10 from the fields, line by line as RFC 5280 4.1 and 4.2, RFC 6487 4 and RFC 3779
-have them; a signature is the SHA-256 digest of what is signed.
+have them; a signature is what is signed.
 """
 
 import hashlib
@@ -269,7 +269,7 @@ def cases():
 
 
 def certificate(message):
-    return seq(message, SIGN, tlv(3, b"\0" + hashlib.sha256(message).digest()))
+    return seq(message, SIGN, bits(message))
 
 
 def validated(q):

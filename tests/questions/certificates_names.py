@@ -257,7 +257,7 @@ def names(q):
     for mode, text in itertools.product(MODES, [*good, *loose, *refused[:4], *spelled_otherwise()]):
         answer = told(mode, text)
         for to in MODES:
-            octets = answer and (answer[1].hex() if to in ("ber", mode) else "(no form in CER)")
+            octets = answer and (answer[1].hex() if to in ("ber", mode) else "no form in CER")
             q.ask(octets or "refused: content", "name", "write", mode, text.hex(), to)
         q.ask(answer[1].hex() if answer else "refused: content", "name", "clone", mode, text.hex())
     some = [*good[:4], *loose[:1], spelled_otherwise()[0]]
