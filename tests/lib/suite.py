@@ -14,7 +14,7 @@ import tempfile
 import threading
 import time
 
-from programs import KEPT, QUESTIONS, TOP, is_newer, kept, proved, sources, unproved
+from programs import CRATES, KEPT, QUESTIONS, TOP, is_newer, kept, proved, sources, unproved
 
 # A program with the checks of AddressSanitizer is so many times as slow, more or less, and may take so much longer.
 SLOWER = 6
@@ -64,14 +64,13 @@ class Test:
 FLOORS = {"certificates": 23_388, "codec": 25_820, "objects": 12_977, "resources": 9_745, "validator": 6_614}
 
 # Programs with stored input, which the gate proves and asks itself.
-STORED = ("example_checklist", "example_codec", "example_resources", "rpki_ask", "rpki_check")
+STORED = sorted(path.parent.name for path in CRATES.glob("*/stdout"))
 
 TESTS = (
     # The questions of each member.
     *(Test(f"questions {member}", f"questions/{member}.py {{questions}}", 300, floor=floor) for member, floor in FLOORS.items()),
     # What is stored is what the scripts write.
-    Test("written cases", "outside/written.py validator.py cases", 300),
-    Test("written examples", "outside/written.py examples.py example_checklist example_codec example_resources", 300),
+    Test("written", "outside/written.py", 300),
     # What documents say of the sources.
     Test("promise", "tools/promise.py", 300),
     Test("definitions", "tools/definitions.py --check", 0, 60),
@@ -115,9 +114,8 @@ TESTS = (
     Test("chance asks", "outside/rpki_asks.py {rpki_ask}", 400, 2400, less="--count 60", more="--count 1000", least="--count 10"),
     Test("refusals", "outside/rpki_refusals.py {rpki_ask}", 400, 3600, less="--lines 800", more="--lines 12000", least="--lines 250"),
     Test("chance worlds", "questions/rpki_worlds.py {questions}", 400, 2400, less="60", more="1000", least="20"),
-    Test("roles", "questions/certs_roles.py --all {questions}", 300),
     # A second reading of which attestations are valid.
-    Test("attestations", "questions/objects_rta_valid_cases.py {questions}", 300),
+    Test("attestations", "questions/objects_rta_valid.py {questions}", 300),
     # Growths refused in turn.
     Test("growths", "outside/growths.py {rpki_check}", 500, needs=("cc", "plain")),
     *(Test(f"growths {member}", f"outside/calls_growths.py {{questions}} --member {member}", 600, 3600, needs=("cc", "plain"), less="--few") for member in FLOORS),
