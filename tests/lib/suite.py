@@ -63,8 +63,8 @@ class Test:
 # proved programs. So none is lost unseen; whoever takes questions away on purpose says so here.
 FLOORS = {"certificates": 23_388, "codec": 25_820, "objects": 12_977, "resources": 9_745, "validator": 6_614}
 
-# Programs with stored input, which the gate proves and asks itself.
-STORED = sorted(path.parent.name for path in CRATES.glob("*/stdout"))
+# Programs with stored input, which the gate proves and asks itself. Examples would be built for it alone, so they wait for `all`.
+STORED = {path.parent.name: 0 if path.parent.name.startswith("example") else 300 for path in sorted(CRATES.glob("*/stdout"))}
 
 TESTS = (
     # The questions of each member.
@@ -85,7 +85,7 @@ TESTS = (
     # Errors of which no clause says anything have a reason.
     Test("error sides", "tools/error_sides.py", 300),
     # Stored questions.
-    *(Test(f"stored {name}", f"outside/stored.py {name} {{{name}}}", 300, is_gates=True) for name in STORED),
+    *(Test(f"stored {name}", f"outside/stored.py {name} {{{name}}}", at, 300, is_gates=True) for name, at in STORED.items()),
     # The built program, from outside.
     Test("cases", "outside/cases.sh {rpki_check} cases", 300),
     Test("faults", "outside/faults.py {rpki_check}", 300, needs=("plain",)),
