@@ -57,7 +57,7 @@ class Test:
 
 
 # Programs of questions and examples, whose answers are stored beside them.
-STORED = ("attestations_cases", "bcder_cases", "bundles_cases", "example_checklist", "example_codec", "example_resources", "objects_cases", "resources_cases", "rpki_ask", "rpki_cases", "rpki_check")
+STORED = ("attestations_cases", "bcder_cases", "bundles_cases", "example_certificate", "example_checklist", "example_codec", "example_resources", "example_validator", "objects_cases", "resources_cases", "rpki_ask", "rpki_cases", "rpki_check")
 
 # Programs of questions that are asked with each growth refused, and how long that may take at `quick`.
 ASKED = {"bundles_cases": 600, "rpki_cases": 600, "attestations_cases": 0, "bcder_cases": 0, "objects_cases": 0, "resources_cases": 0}
@@ -67,7 +67,7 @@ TESTS = (
     Test("written attestations", "outside/written.py attestations_cases.py attestations_cases", 300),
     Test("written bcder", "outside/written.py bcder_cases.py bcder_cases", 300),
     Test("written bundles", "outside/written.py bundles_cases.py bundles_cases", 300),
-    Test("written examples", "outside/written.py examples.py example_checklist example_codec example_resources", 300),
+    Test("written examples", "outside/written.py examples.py example_certificate example_checklist example_codec example_resources example_validator", 300),
     Test("written objects", "outside/written.py objects_cases.py objects_cases", 400),
     Test("written resources", "outside/written.py resources_calls.py resources_cases", 300),
     Test("written rpki", "outside/written.py rpki_cases.py rpki_cases cases", 500),
