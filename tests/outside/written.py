@@ -16,7 +16,7 @@ TOP = pathlib.Path(__file__).resolve().parents[2]
 PARTS = ("tests/questions", "tests/lib", "bench", "crates/rpki_rules/src", "crates/certs_extension/src", "crates/objects_payload/src")
 # Each command with the folders that it writes into.
 COMMANDS = {
-    ("examples.py",): ("crates/example_checklist", "crates/example_codec", "crates/example_resources"),
+    ("examples.py",): tuple(f"crates/{path.parent.name}" for path in sorted(TOP.glob("crates/example_*/stdout"))),
     ("validator.py", "--cases"): ("tests/cases",),
 }
 

@@ -1,7 +1,8 @@
 """Questions about names and serial numbers, for tests/questions/certificates.py.
 
-What octets begin with is compared with X.501 9.2 (Name, a SEQUENCE OF SET OF SEQUENCE of a type and a value), and with RFC 6487 4.4 for inspection: one commonName, at most one serialNumber, nothing
-else, each a primitive PrintableString; where not strict, and for routers, a primitive UTF8String too.
+What octets begin with is compared with X.501 9.2 (Name, a SEQUENCE OF SET OF SEQUENCE of a type and a value), and with RFC 6487
+4.4 for inspection: one commonName, at most one serialNumber, nothing else, each a primitive PrintableString; where not strict, and
+for routers, a primitive UTF8String too.
 """
 
 import itertools

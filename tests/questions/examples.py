@@ -1,7 +1,8 @@
 #!/usr/bin/env python3
 """Writes the questions and answers of the examples that are programs: `stdin` and `stdout` of `crates/example_codec`,
-`crates/example_resources` and `crates/example_checklist`. Tallies are written by an encoder of its own; what isn't held, and
-what becomes of a checklist, was thought out by hand. Checklists are those of objects_rsc_cases.py."""
+`example_resources`, `example_certificate`, `example_checklist` and `example_validator`. Tallies are written by an encoder of
+its own; what isn't held, what a certificate has, what becomes of a checklist, and what a bundle means was thought out by hand.
+Certificates, objects and bundles are made by rpki_repositories.py, checklists by objects_rsc.py."""
 
 import hashlib
 import pathlib
@@ -10,7 +11,7 @@ import sys
 sys.dont_write_bytecode = True
 sys.path.insert(0, str(pathlib.Path(__file__).resolve().parents[1] / "lib"))
 
-import objects_rsc_cases as rsc  # noqa: E402
+import objects_rsc as rsc  # noqa: E402
 import rpki_repositories as world  # noqa: E402
 
 CRATES = pathlib.Path(__file__).resolve().parents[2] / "crates"
@@ -142,12 +143,55 @@ def certificates():
     yield "", "refused: no value (at position 0)"
 
 
+def validators():
+    """Bundles of an authority below an anchor, with their lines, their good objects, and what is refused and why."""
+
+    def told(lines, good, refused):
+        lines = lines + [f"{uri} is good: true" for uri in good]
+        return "\n".join(lines + [f"{uri} is refused: {why}" for uri, why in refused])
+
+    def repository(serial=9, **how):
+        """One with two ROAs and an ASPA, and a revoked serial number; `how` the certificate of the second ROA is signed."""
+        made = world.World()
+        top = made.anchor(1, {"ipv4": ["192.0.2.0/24", "198.51.100.0/24"], "as": [(64496, 64511)]}, b"example")
+        isp = made.authority(2, world.HOST + b"isp/", b"isp")
+        top.certify(b"isp.cer", isp, {"ipv4": ["192.0.2.0/24"], "as": [64496]})
+        top.publish()
+        isp.add_roa(b"a.roa", world.roa(64496, "192.0.2.0/24-26"), {"ipv4": ["192.0.2.0/24"]})
+        before = set(made.verdicts)
+        isp.add_roa(b"b.roa", world.roa(64499, "192.0.2.0/25"), {"ipv4": ["192.0.2.0/25"]}, serial=serial, **how)
+        # the signatures of the second ROA, and of its certificate
+        apart = [row for row in made.verdicts if row not in before]
+        isp.add_aspa(b"c.asa", world.aspa(64496, 64497, 64498), {"as": [64496]})
+        isp.revoked = [7]
+        isp.publish()
+        return made, apart
+
+    first, second, third = (world.HOST.decode() + f"isp/{name}" for name in ("a.roa", "b.roa", "c.asa"))
+    origin, other = "roa AS64496 192.0.2.0/24 26", "roa AS64499 192.0.2.0/25 25"
+    customer, line = "aspa AS64496 AS64497 AS64498", f"refused {second} object"
+
+    made, _ = repository()
+    yield made.bundle().hex(), told([origin, other, customer], [first, second, third], [])
+    made, _ = repository(serial=7)
+    yield made.bundle().hex(), told([origin, customer, line], [first, third], [(second, "certificate of the object: revoked")])
+    # Another key signed its certificate, and the bundle has no verdict that says so of the issuer's.
+    made, _ = repository(signer=3)
+    yield made.bundle().hex(), told([origin, customer, line], [first, third], [(second, "certificate of the object: bad signature")])
+    # The bundle lacks a verdict: its lines go by those that it has, and the judge by the program's own.
+    made, apart = repository()
+    made.verdicts = [row for row in made.verdicts if row not in apart]
+    yield made.bundle().hex(), told([origin, customer, line], [first, second, third], [])
+    yield "00", "refused: not a bundle"
+
+
 def main():
     written = {
         "example_codec": codec(),
         "example_resources": resources(),
         "example_certificate": certificates(),
         "example_checklist": checklists(),
+        "example_validator": validators(),
     }
     for name, rows in written.items():
         rows = list(rows)

@@ -1,5 +1,6 @@
 #!/usr/bin/env python3
-"""Writes crates/FACE/CALLING.md for each member's face: what differs at a call, and the public calls with their contracts.
+"""Writes crates/FACE/CALLING.md for each member's face: a program over it, what differs at a call, and the public calls with their
+contracts.
 
     calling.py [--check] [FACE..]
 
@@ -26,6 +27,14 @@ FACES = {
     "certs": ["Certificates", "Revocation lists"],
     "objects": ["Signed objects", "Trust anchor locators"],
     "rpki_validator": ["Validator"],
+}
+# The program over each face that is shown first.
+EXAMPLES = {
+    "bcder": "example_codec",
+    "resources": "example_resources",
+    "certs": "example_certificate",
+    "objects": "example_checklist",
+    "rpki_validator": "example_validator",
 }
 ITEM = re.compile(r"^pub (struct|enum|trait|type|const|fn|unsafe trait) (\w+)")
 USE = re.compile(r"^(pub )?use ([^;{]+?)(?:::\{([^}]*)\}| as (\w+))?;", re.M | re.S)
@@ -217,10 +226,24 @@ def item_text(key, given):
     return f"{head}```text\n" + "\n\n".join(parts) + "\n```"
 
 
+def program(face):
+    """The program over a face: the command that runs it, and its source, `main` first."""
+    name = EXAMPLES[face]
+    folder = os.path.join(antt.TOP, "crates", name, "src")
+    run = f"    cd crates/{name} && rt try < stdin"
+    parts = [f"\n## A program\n\nAt the top of a clone\n\n{run}\n\nruns this one, and `rt run < stdin` there proves it first.\n"]
+    for file in sorted(os.listdir(folder), key=lambda it: (it != "main.rt", it)):
+        with open(os.path.join(folder, file)) as text:
+            parts.append(f"\n`src/{file}`:\n\n```rust\n{text.read()}```\n")
+    return "".join(parts)
+
+
 def page(face):
     text, example = about(face)
+    first, _, others = text.partition("\n\n")
     rows, texts = differences(["Everywhere", *FACES[face]])
-    parts = [f"# Calling `{face}`\n\n{text}\n"]
+    parts = [f"# Calling `{face}`\n\n{first}\n", program(face)]
+    parts += [f"\n## The face\n\n{others}\n"] if others else []
     if example:
         parts.append(f"\n## A caller\n\n{example[0]}\n\n```text\n{example[1]}```\n")
     parts.append("\n## What differs at a call\n\n`docs/DIFFERENCES.md` has the reasons.\n")

@@ -1,8 +1,8 @@
 -- When a file is one that an accepted checklist lists (RFC 9323).
 use Rattle.std.specs.Prelude.{◌≡◌, ℕ, List, Some, true, Err}
-use Rattle.certs_verify.specs.certs_basics.Lists.{Mem}
-use Rattle.certs_verify.specs.certs_basics.Verdicts.{Verdicts}
-use Rattle.certs_verify.specs.certs_x509.declared.errors.validation.ValidationError.{ValidationError}
+use Rattle.certs.specs.certs_basics.Lists.{Mem}
+use Rattle.certs.specs.certs_basics.Verdicts.{Verdicts}
+use Rattle.certs.specs.certs_x509.declared.errors.validation.ValidationError.{ValidationError}
 use Rattle.objects.specs.Checklists.{CheckedFile, Checklist}
 use Rattle.objects.specs.ProcessedChecklists.{PassesChecklist, ProcessesChecklist}
 use Rattle.objects.specs.objects_valid.Accepted.{AcceptsObject}

@@ -5,8 +5,8 @@ ghost use Rattle.std.specs.Fn.{FnOnceReturnsAt};
 ghost use Rattle.sha2.specs.Sha256.{sha256 as sha256_of};
 ghost use Rattle.example_checklist.specs.Listed.{IsAccepted, IsRefused, Lists};
 
-use certs_verify::{Cert, Digester, ResourceCert, ValidationError, Verifier};
-use certs_x509::errors::Time;
+use certs::cert::{Cert, ResourceCert};
+use certs::x509::{Digester, Time, ValidationError, Verifier};
 use objects::rsc::{ResourceSignedChecklist, Rsc};
 use rpki_digests::Fips;
 use std::alloc::Global;

@@ -1,4 +1,4 @@
-//! Whether a file is one that a signed checklist lists: an example of a program on `objects`.
+//! Whether a file is one that a signed checklist lists: an example of a program on the faces `objects` and `certs`.
 //!
 //! Each line of standard input has a moment, a trust anchor's certificate, a signed checklist, the name of a file and its
 //! octets, with a tab between; octets are in hexadecimal digits. It is answered by `listed` where the checklist is accepted
@@ -12,8 +12,8 @@ mod listed;
 mod signatures;
 
 use anyhow::{Result, anyhow};
-use certs_verify::{Cert, ResourceCert, TalInfo, Validate};
-use certs_x509::errors::Time;
+use certs::cert::{Cert, ResourceCert, Validate};
+use certs::x509::{TalInfo, Time};
 use listed::{File, Terms, is_checked};
 use objects::rsc::Rsc;
 use rpki_digests::Fips;
@@ -40,13 +40,10 @@ fn anchor_of(alloc: Global, digits: &str, now: Time) -> Result<ResourceCert> {
 // The checklist of hexadecimal digits.
 fn checklist_of(alloc: Global, digits: &str) -> Result<Rsc> {
     let octets = hex::decode(alloc, digits)?;
-    match Rsc::decode(alloc, octets.as_slice(), true) {
-        Ok(rsc) => Ok(rsc),
-        Err(error) => {
-            drop(error);
-            Err(anyhow!("no checklist"))
-        }
-    }
+    let Ok(rsc) = Rsc::decode(alloc, octets.as_slice(), true) else {
+        return Err(anyhow!("no checklist"));
+    };
+    Ok(rsc)
 }
 
 // Whether the file is one of the checklist, where that is accepted.
@@ -54,23 +51,16 @@ fn checked(
     alloc: Global,
     rsc: Rsc,
     issuer: &ResourceCert,
-    now: Time,
+    moment: Time,
     file: File<'_>,
 ) -> Result<bool> {
     let mut verifier = StandIn { asked: 0 };
     let mut terms = Terms {
         issuer,
-        moment: now,
+        moment,
         verifier: &mut verifier,
     };
-    match is_checked(alloc, rsc, &mut terms, |_| Ok(()), file) {
-        Ok(yes) => Ok(yes),
-        Err(error) => {
-            let told = anyhow!("{error}");
-            drop(error);
-            Err(told)
-        }
-    }
+    Ok(is_checked(alloc, rsc, &mut terms, |_| Ok(()), file)?)
 }
 
 // Whether a file, of a name and of the octets of hexadecimal digits, is one of a checklist below the issuer.

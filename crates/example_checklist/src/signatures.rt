@@ -1,10 +1,9 @@
 //! Whose signatures are good: a stand-in for a library that computes them.
 
-ghost use Rattle.std.specs.Prelude.{◌≡◌, ◌++◌, bytes_eq};
+ghost use Rattle.std.specs.Prelude.{◌++◌, bytes_eq};
 ghost use Rattle.sha2.specs.Sha256.{sha256 as sha256_of};
 
-use certs_verify::Verifier;
-use certs_x509::{PublicKey, RpkiSignatureAlgorithm};
+use certs::x509::{PublicKey, RpkiSignatureAlgorithm, Verifier};
 use sha2::{Digest, Sha256};
 
 /// To it the SHA-256 digest of a key's bits followed by the message is the good signature.
@@ -12,16 +11,6 @@ use sha2::{Digest, Sha256};
 pub struct StandIn {
     /// How often it was asked.
     pub asked: u64,
-}
-
-// The digest of both, one after the other.
-fn digest_of(bits: &[u8], message: &[u8]) -> [u8; 32]
-    ensures { result ≡ sha256_of (bits.now ++ message.now) }
-{
-    let mut hasher = Sha256::new();
-    hasher.update(bits);
-    hasher.update(message);
-    hasher.finalize()
 }
 
 impl Verifier for StandIn {
@@ -38,7 +27,10 @@ impl Verifier for StandIn {
         signature: &[u8],
     ) -> bool {
         self.asked = self.asked.saturating_add(1);
-        let digest = digest_of(key.bits(), message);
+        let mut hasher = Sha256::new();
+        hasher.update(key.bits());
+        hasher.update(message);
+        let digest = hasher.finalize();
         digest.as_slice() == signature
     }
 

@@ -9,11 +9,9 @@ use rpki_validator::Digester;
 use sha1::Sha1;
 use sha2::{Digest, Sha256};
 
-/// To it the SHA-256 digest of a key's bits followed by the message is the good signature. It counts how often it was asked.
+/// To it the SHA-256 digest of a key's bits followed by the message is the good signature. It counts how often it is asked.
 #[derive(Clone, Copy)]
-pub struct Own {
-    pub asked: u64,
-}
+pub struct Own(pub u64);
 
 impl Digester for Own {
     ghost sha256_digest = { λ _ octets. sha256_of octets };
@@ -33,7 +31,7 @@ impl Verifier for Own {
     ghost says = { λ _ key _ message signature.
         bytes_eq (sha256_of (key.bits.octets ++ message)) signature };
 
-    ghost count = { λ own. own.asked };
+    ghost count = { λ own. own.0 };
 
     fn verify(
         &mut self,
@@ -42,14 +40,15 @@ impl Verifier for Own {
         message: &[u8],
         signature: &[u8],
     ) -> bool {
-        self.asked = self.asked.saturating_add(1);
+        self.0 = self.0.saturating_add(1);
         let mut hasher = Sha256::new();
         hasher.update(key.bits());
         hasher.update(message);
-        hasher.finalize().as_slice() == signature
+        let digest = hasher.finalize();
+        digest.as_slice() == signature
     }
 
     fn asked(&self) -> u64 {
-        self.asked
+        self.0
     }
 }
