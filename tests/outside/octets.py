@@ -196,7 +196,8 @@ def deep():
     for octets in (sequences, tagged, endless, ended):
         yield ["certificates", "cert", "read", "told", octets.hex()], None
         yield ["certificates", "cert", "read", "told", seq(octets, *signature).hex()], None
-        yield ["certificates", "cert", "read", "told", seq(seq(tlv(0xA0, integer(2)), integer(1), ALGORITHM, octets), *signature).hex()], None
+        tbs = seq(tlv(0xA0, integer(2)), integer(1), ALGORITHM, octets)
+        yield ["certificates", "cert", "read", "told", seq(tbs, *signature).hex()], None
         yield ["certificates", "key", "decode", octets.hex()], None
         yield ["certificates", "key", "decode", seq(octets, bits(b"")).hex()], None
         yield ["certificates", "key", "decode", seq(seq(oid("1.2.840.113549.1.1.1"), octets), bits(b"")).hex()], None

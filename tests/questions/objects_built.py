@@ -9,26 +9,23 @@ import ipaddress
 import random
 
 from objects_contents import answer_of
-from rpki_repositories import ALGORITHM, NULL, RSA, SHA256, bits, extension, integer, oid, seq, tlv
+from rpki_repositories import ALGORITHM, NULL, RSA, SHA256, bits, encoded, extension, integer, key_bits, oid, seq, tlv
 
 rng = random.Random(6488)
 
 PKCS9 = "1.2.840.113549.1.9."
 PE = "1.3.6.1.5.5.7.1."
 AD = "1.3.6.1.5.5.7.48."
-ISSUER, MADE = b"\x00\x01", b"\x00\x02"
+# Keys, of the issuer and of the object.
+ISSUER, MADE = 1, 2
 
 
 def name(text):
     return seq(tlv(0x31, seq(oid("2.5.4.3"), tlv(19, text.encode()))))
 
 
-def key(octets):
-    return seq(RSA, bits(octets))
-
-
-def identifier(octets):
-    return hashlib.sha1(octets).digest()
+def identifier(key):
+    return hashlib.sha1(key_bits(key)).digest()
 
 
 def generalized(parts):
@@ -112,8 +109,8 @@ def extensions(fields):
         yield extension(PE + "8", asns(fields["asn"]), True)
 
 
-def signature(octets, data):
-    return hashlib.sha256(octets + data).digest()
+def signature(key, data):
+    return hashlib.sha256(key_bits(key) + data).digest()
 
 
 def certificate(fields):
@@ -124,7 +121,7 @@ def certificate(fields):
         name(fields.get("issuer") or identifier(ISSUER).hex()),
         seq(moment(fields["from"]), moment(fields["to"])),
         name(fields.get("subject") or identifier(MADE).hex()),
-        key(MADE),
+        encoded(MADE),
         tlv(0xA3, seq(*extensions(fields))),
     )
     return seq(message, ALGORITHM, bits(signature(ISSUER, message)))
@@ -409,7 +406,7 @@ def listed(numbers):
 def providers(customer, first, others):
     there = set(first)
     if len(there) < len(first):
-        return DUPLICATE
+        return f"refused: {DUPLICATE}"
     told = ""
     for number in others:
         told += f"{DUPLICATE}: {number} " if number in there else "added "
