@@ -44,8 +44,7 @@ def short(line):
 
 def compare(program, rows, lay=None):
     """Asks the program, and prints each question that was answered otherwise, what came and what was wanted; how many answers were right,
-    and how many weren't. The program runs in a folder of its own, in which `lay` lays what it finds there, and as nobody where this is
-    root."""
+    and how many weren't. The program runs in a folder of its own, in which `lay` lays what it finds there, as nobody where this is root."""
     rows, passed, failed = list(rows), 0, 0
     with programs.apart(program, lay) as (copy, folder, drop):
         how = {"cwd": folder, "stdin": subprocess.PIPE, "stdout": subprocess.PIPE, "stderr": subprocess.PIPE, "env": programs.environment(folder)}

@@ -6,9 +6,9 @@
 So many worlds are made by that seed, and it exits with 1 where the program answers otherwise.
 
 Worlds are lists of locators and things (rpki_chains.py), made by hand (rpki_hand_worlds.py) and by chance; their octets are
-tests/lib/rpki_repositories.py's. A world is told line by line, and each line that gives something is answered by an empty one. What is answered of a world by chance comes of trying every list of its certificates as
-a chain, and is stated for one made by hand. Each walk is compared with tests/lib/rpki_model.py's, a second reading of the rules that
-reads the octets.
+tests/lib/rpki_repositories.py's. A world is told line by line, and each line that gives something is answered by an empty one. What
+is answered of a world by chance comes of trying every list of its certificates as a chain, and is stated for one made by hand. Each
+walk is compared with tests/lib/rpki_model.py's, a second reading of the rules that reads the octets.
 
 Worlds are changed: depths are others, objects are forged or taken out, a verdict is taken out, and of all objects those alone are
 left that a good witness's chain names. Of each change the laws are asserted: outside what the forged URIs can reach nothing

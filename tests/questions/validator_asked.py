@@ -51,9 +51,8 @@ EMPTY = words("30 1D H 02 01 20 30 00 30 00 30 00")
 EMPTY_LOCATOR = words("30 24 H 02 01 20 30 07 30 05 13 01 78 04 00 30 00 30 00")
 SORTED = words("30 2B H 02 01 20 30 0E 30 05 13 01 61 04 00 30 05 13 01 62 04 00 30 00 30 00")
 ONE_OBJECT = words("30 30 H 02 01 20 30 00 30 13 30 11 16 0D 72 73 79 6E 63 3A 2F 2F 61 2F 6D 2F 78 04 00 30 00")
-VERSION_1 = {
-    relaxed: words("30 20" + HEAD.replace("02 01 00", "02 01 01", 1) + f"02 01 20 01 01 {relaxed} 30 00 30 00 30 00") for relaxed in ("FF", "00")
-}
+HEAD_1 = HEAD.replace("02 01 00", "02 01 01", 1)
+VERSION_1 = {relaxed: words(f"30 20 {HEAD_1} 02 01 20 01 01 {relaxed} 30 00 30 00 30 00") for relaxed in ("FF", "00")}
 NOT_YET = words("30 25 H 02 01 20 30 08 30 06 13 01 78 04 01 41 30 00 30 00")
 
 
@@ -168,7 +167,8 @@ def other_versions():
     flag and without one, and in more octets than it needs."""
     first, flagged = EMPTY[2:], VERSION_1["00"][2:]
     flag, true = b"\1\1\0", b"\1\1\xff"
-    for other in (b"\1\1\x01", b"\1\1\x80", b"\1\1\xfe", b"\1\0", b"\1\2\0\0", b"\1\2\xff\xff", b"\1\x81\1\0", b"\x21\3\1\1\0", b"\x81\1\0", b"\2\1\0", b"\2\1\1", b"\5\0", flag * 2, true * 2, flag + true):
+    booleans = b"\1\1\x01", b"\1\1\x80", b"\1\1\xfe", b"\1\0", b"\1\2\0\0", b"\1\2\xff\xff", b"\1\x81\1\0", b"\x21\3\1\1\0"
+    for other in (*booleans, b"\x81\1\0", b"\2\1\0", b"\2\1\1", b"\5\0", flag * 2, true * 2, flag + true):
         yield tlv(0x30, flagged.replace(flag, other))
     at = flagged.index(flag)
     without = flagged.replace(flag, b"")

@@ -46,7 +46,8 @@ def bundles(q, rng):
 def get_and_parts(q, rng):
     held = [b"https://a/x", b"rsync://a/m/X", b"rsync://a/m/x", b"rsync://a/m/y", b"rsync://b/m/x"]
     octets = bundle(objects=[(uri, uri[::-1]) for uri in held], depth=1)
-    spelled = held + [b"RSYNC://A/m/x", b"https://A/x", b"", b"https://a", b"rsync://a/m/z", b"rsync://c/m/x", b"rsync://a/M/x", b"x", b"http://a/x", b"rsync://a/m/x ", b"rsync://b/m/x/", b"rsync://a"]
+    spelled = held + [b"RSYNC://A/m/x", b"https://A/x", b"", b"https://a", b"rsync://a/m/z", b"rsync://c/m/x", b"rsync://a/M/x", b"x"]
+    spelled += [b"http://a/x", b"rsync://a/m/x ", b"rsync://b/m/x/", b"rsync://a"]
     for uri in spelled:
         found = uri_kind(uri) and lookup_key(uri) in held
         q.ask(f"held {lookup_key(uri)[::-1].hex()}" if found else "none", "get", octets.hex(), uri.hex())
@@ -105,10 +106,14 @@ def times(q, rng):
         q.ask(text if real else "none", "utc", *map(str, row))
         if len(text) == 15:
             q.ask(text if real else "none", "moment", text)
-    for text in ("", "2025010100000Z", "202501010000000Z", "2025O101000000Z", "20250101000000z", "20250101000000", " 0250101000000Z", "20250101000000Z ", "+0250101000000Z", "-2025101000000Z"):
+    wrong = "", "2025010100000Z", "202501010000000Z", "2025O101000000Z", "20250101000000z", "20250101000000", " 0250101000000Z"
+    for text in (*wrong, "20250101000000Z ", "+0250101000000Z", "-2025101000000Z"):
         q.ask("none", "moment", text)
-    texts = sorted({f"{rng.choice(['0000', '2024', '2025', '9999'])}{rng.randrange(1, 13):02}{rng.randrange(1, 29):02}{rng.randrange(24):02}0{rng.randrange(10)}59Z" for _ in range(9)})
-    texts = sorted(texts + ["20250131235959Z", "20250201000000Z"])
+    texts = {"20250131235959Z", "20250201000000Z"}
+    for _ in range(9):
+        year, month, day = rng.choice(["0000", "2024", "2025", "9999"]), rng.randrange(1, 13), rng.randrange(1, 29)
+        texts.add(f"{year}{month:02}{day:02}{rng.randrange(24):02}0{rng.randrange(10)}59Z")
+    texts = sorted(texts)
     for one in texts:
         for other in texts:
             order = "Less" if one < other else "Equal" if one == other else "Greater"
@@ -133,7 +138,8 @@ def uris(q, rng):
         q.ask(" ".join(str(fact).lower() for fact in facts) + key, "uri", uri.hex())
     for uri in (b"Rsync://R/M", b"HTTPS://Ab.C", b"rsync://a/m/x"):
         key = lookup_key(uri)
-        others = [key, key[:-1], key + b"x", key[:-1] + bytes([key[-1] - 1]), key[:-1] + bytes([key[-1] + 1]), b"", uri, b"rsync://r/", b"a", b"z"]
+        neighbours = [key[:-1] + bytes([key[-1] + more]) for more in (-1, 1)]
+        others = [key, key[:-1], key + b"x", *neighbours, b"", uri, b"rsync://r/", b"a", b"z"]
         for other in others:
             order = "Less" if other < key else "Equal" if other == key else "Greater"
             q.ask(order, "compare", other.hex(), uri.hex())

@@ -71,7 +71,9 @@ def texts(q):
     q.ask("bundle x", "command", "p", "bundle", "x")
     q.ask("bundle ", "command", "p", "bundle", "")
     q.ask("check", "command", "", "check")
-    for wrong in ((), ("p",), ("check",), ("p", ""), ("p", "Check"), ("p", "check "), ("p", "bundle"), ("p", "bundle", "x", "y"), ("p", "check", "check"), ("p", "Bundle", "x"), ("bundle", "x")):
+    for wrong in ((), ("p",), ("check",), ("p", ""), ("p", "Check"), ("p", "check "), ("p", "bundle")):
+        q.ask("1", "command", *wrong)
+    for wrong in (("p", "bundle", "x", "y"), ("p", "check", "check"), ("p", "Bundle", "x"), ("bundle", "x")):
         q.ask("1", "command", *wrong)
     # The examples of FIPS 180-4, and others.
     abc = hashlib.sha256(b"abc").hexdigest(), hashlib.sha1(b"abc").hexdigest()

@@ -87,7 +87,8 @@ def all_entries():
 def kinds():
     """Each kind of entry where it is wanted, and where it isn't."""
     yield "kinds/all", *all_entries()
-    other = {"relax": b"true", "relaxed.txt": b"true", "other/x": b"x", "tals/x.tal": b"text", "tals/x.TALX": b"y", "tals/readme": b"y", "tals/tal": b"y", "tals/folder.tal/deeper.tal": b"y", "tals/tal.folder/x.tal": b"y"}
+    other = {"relax": b"true", "relaxed.txt": b"true", "other/x": b"x", "tals/x.tal": b"text", "tals/x.TALX": b"y", "tals/readme": b"y"}
+    other |= {"tals/tal": b"y", "tals/folder.tal/deeper.tal": b"y", "tals/tal.folder/x.tal": b"y"}
     yield "kinds/others", other, bundle([(b"x", b"text")])
     yield "kinds/empty-verdicts", {"verdicts": b""}, EMPTY
     yield "kinds/empty-folders", {"tals": empty, "rsync/a/m": empty, "https": empty}, EMPTY
@@ -101,7 +102,8 @@ def kinds():
     yield "kinds/no-moment-bad-depth", {"moment": None, "depth": b"0"}, NO_FOLDER
     large = b"A" * 65_535 + b"B" * 65_535 + b"C" * 9_999
     yield "kinds/large", {"https/h/large": large}, bundle(objects=[(b"https://h/large", large)])
-    for at, name in enumerate(("tals/.tal", "tals/a b.tal", "tals/é.tal", "tals/a_b.tal", "rsync/a/m x/y", "rsync/a/m/é", "rsync/a/m/\x7f", "https/ /x")):
+    names = "tals/.tal", "tals/a b.tal", "tals/é.tal", "tals/a_b.tal", "rsync/a/m x/y", "rsync/a/m/é", "rsync/a/m/\x7f", "https/ /x"
+    for at, name in enumerate(names):
         yield f"kinds/name-{at}", {name: b"x"}, NO_BUNDLE
 
 
@@ -116,11 +118,13 @@ def levels():
 
 
 def links():
-    to_files = {"elsewhere/file": b"octets", "rsync/a/m": link("../../elsewhere"), "tals/x.tal": link("../elsewhere/file"), "verdicts": link("elsewhere/none")}
+    to_files = {"elsewhere/file": b"octets", "rsync/a/m": link("../../elsewhere"), "tals/x.tal": link("../elsewhere/file")}
+    to_files["verdicts"] = link("elsewhere/none")
     yield "links/one-broken", to_files, NO_FOLDER
     found = [(b"rsync://a/m/file", b"octets"), (b"rsync://a/m/none", line(LINES[0]))]
     yield "links/files", {"elsewhere/none": line(LINES[0]), **to_files}, bundle([(b"x", b"octets")], found, rows(LINES[0]))
-    for at, (path, target) in enumerate((("rsync/a/m", "."), ("rsync/a/x", "x"), ("rsync/a/x", "nothing"), ("tals/x", "nothing"), ("tals/x.tal", "nothing"))):
+    broken = ("rsync/a/m", "."), ("rsync/a/x", "x"), ("rsync/a/x", "nothing"), ("tals/x", "nothing"), ("tals/x.tal", "nothing")
+    for at, (path, target) in enumerate(broken):
         yield f"links/to-itself-or-nothing-{at}", {path: link(target)}, NO_FOLDER
     for name in ("moment", "depth", "verdicts", "relaxed", "tals", "rsync", "https"):
         yield f"links/broken-{name}", {name: link("nothing")}, NO_FOLDER
@@ -159,10 +163,11 @@ def moments_and_depths():
     for end in ENDS:
         for depth in (1, 9, 10, 31, 32):
             yield {"moment": MOMENT + end, "depth": b"%d" % depth + end}, bundle(depth=depth)
-    for depth in (b"032", b"0", b"33", b"99", b"320", b"", b"\n", b"32 ", b" 32", b"+9", b"3\r", b"32\r", b"3\n\n", b"32\n\n", b"3a", b"1\xb2", b"100", b"\xef\xbb\xbf32"):
+    wrong = b"032", b"0", b"33", b"99", b"320", b"", b"\n", b"32 ", b" 32", b"+9", b"3\r", b"32\r", b"3\n\n", b"32\n\n", b"3a", b"1\xb2"
+    for depth in (*wrong, b"100", b"\xef\xbb\xbf32"):
         yield {"depth": depth}, NO_BUNDLE
-    wrong = (b"\r", b" ", b"\n\n", b"x")
-    for moment in [MOMENT + end for end in wrong] + [b"", b"\n", MOMENT[:-1], b"20250229000000Z", b"2025010100000Z", b"20250101000060Z", b"20250101000000z", b" " + MOMENT]:
+    wrong = [MOMENT + end for end in (b"\r", b" ", b"\n\n", b"x")] + [b"", b"\n", MOMENT[:-1], b" " + MOMENT]
+    for moment in (*wrong, b"20250229000000Z", b"2025010100000Z", b"20250101000060Z", b"20250101000000z"):
         yield {"moment": moment}, NO_BUNDLE
     yield {"moment": b"20240229235959Z\n"}, bundle(moment=b"20240229235959Z")
     for name, good in (("moment", MOMENT), ("depth", b"32")):
@@ -174,7 +179,8 @@ def flags():
     for end in ENDS:
         yield {"relaxed": b"true" + end}, VERSION_1["FF"]
         yield {"relaxed": b"false" + end}, VERSION_1["00"]
-    for text in (b"", b"\n", b"True", b"TRUE", b"true\r", b"true\n\n", b"true ", b" true", b"truetrue", b"tru", b"falsee", b"fals", b"true\0", b"1", b"0", b"yes", b"\xef\xbb\xbftrue", b"true\nfalse"):
+    wrong = b"", b"\n", b"True", b"TRUE", b"true\r", b"true\n\n", b"true ", b" true", b"truetrue", b"tru", b"falsee", b"fals", b"true\0"
+    for text in (*wrong, b"1", b"0", b"yes", b"\xef\xbb\xbftrue", b"true\nfalse"):
         yield {"relaxed": text}, NO_BUNDLE
     for more in TOO_LONG:
         yield {"relaxed": b"true" + more}, NO_BUNDLE
