@@ -1,5 +1,4 @@
-"""Bundles, written and read by the rules of their grammar alone (X.690 clauses 8 and 10, DER), for tests/questions/bundles_cases.py
-and rpki_cases.py.
+"""Bundles, written and read by the rules of their grammar alone (X.690 clauses 8 and 10, DER), for the questions to the validator.
 
 URIs and moments are judged by rules of their own here, so that tests/lib/rpki_readers.py has them a second time.
 """

@@ -1,4 +1,4 @@
-"""Questions about walks, for tests/questions/rpki_cases.py: worked cases, changed ones, and what hostile publishers may do.
+"""Questions about walks, for tests/questions/validator.py: worked cases, changed ones, and what hostile publishers may do.
 
 The bundles are made by tests/lib/rpki_repositories.py. The lines of worked cases are stated here, and those of the others are
 tests/lib/rpki_model.py's; of each worked case the model has to say the stated lines, too.

@@ -11,9 +11,10 @@ import signal
 import subprocess
 import sys
 import tempfile
+import threading
 import time
 
-from programs import KEPT, TOP, is_newer, proved, unproved
+from programs import CRATES, KEPT, QUESTIONS, TOP, is_newer, kept, proved, sources, unproved
 
 # A program with the checks of AddressSanitizer is so many times as slow, more or less, and may take so much longer.
 SLOWER = 6
@@ -36,7 +37,8 @@ LACKS = {
 class Test:
     """A command with the programs that it takes in braces, and the seconds that it may take at each level; none: not asked there.
     `more` are words that stand behind the others at `all`, `less` at `quick`, and `least`, where there are some, at `quick` of programs
-    that are built without their proof. What `rt ci` asks itself is left out behind it (`is_gates`)."""
+    that have the checks of AddressSanitizer. What `rt ci` asks itself is left out behind it (`is_gates`). At least as many questions
+    have to be asked as the `floor` says."""
 
     name: str
     words: str
@@ -47,6 +49,7 @@ class Test:
     more: str = ""
     least: str = ""
     is_gates: bool = False
+    floor: int = 0
 
     def limit(self, level):
         return self.quick if level == "quick" else self.all or self.quick
@@ -56,21 +59,18 @@ class Test:
         return f"{self.words} {words}".split()
 
 
-# Programs of questions and examples, whose answers are stored beside them.
-STORED = ("attestations_cases", "bcder_cases", "bundles_cases", "example_certificate", "example_checklist", "example_codec", "example_resources", "example_validator", "objects_cases", "resources_cases", "rpki_ask", "rpki_cases", "rpki_check")
+# Of each member how many questions are asked at least: as many as there were when their answers were stored, and the gate asked them of
+# proved programs. So none is lost unseen; whoever takes questions away on purpose says so here.
+FLOORS = {"certificates": 25_647, "codec": 27_189, "objects": 13_483, "resources": 9_860, "validator": 6_743}
 
-# Programs of questions that are asked with each growth refused, and how long that may take at `quick`.
-ASKED = {"bundles_cases": 600, "rpki_cases": 600, "attestations_cases": 0, "bcder_cases": 0, "objects_cases": 0, "resources_cases": 0}
+# Programs with stored input, which the gate proves and asks itself. Examples would be built for it alone, so they wait for `all`.
+STORED = {path.parent.name: 0 if path.parent.name.startswith("example") else 300 for path in sorted(CRATES.glob("*/stdout"))}
 
 TESTS = (
+    # The questions of each member.
+    *(Test(f"questions {member}", f"questions/{member}.py {{questions}}", 300, floor=floor) for member, floor in FLOORS.items()),
     # What is stored is what the scripts write.
-    Test("written attestations", "outside/written.py attestations_cases.py attestations_cases", 300),
-    Test("written bcder", "outside/written.py bcder_cases.py bcder_cases", 300),
-    Test("written bundles", "outside/written.py bundles_cases.py bundles_cases", 300),
-    Test("written examples", "outside/written.py examples.py example_certificate example_checklist example_codec example_resources example_validator", 300),
-    Test("written objects", "outside/written.py objects_cases.py objects_cases", 400),
-    Test("written resources", "outside/written.py resources_calls.py resources_cases", 300),
-    Test("written rpki", "outside/written.py rpki_cases.py rpki_cases cases", 500),
+    Test("written", "outside/written.py", 300),
     # What documents say of the sources.
     Test("promise", "tools/promise.py", 300),
     Test("definitions", "tools/definitions.py --check", 0, 60),
@@ -85,7 +85,7 @@ TESTS = (
     # Errors of which no clause says anything have a reason.
     Test("error sides", "tools/error_sides.py", 300),
     # Stored questions.
-    *(Test(f"stored {name}", f"outside/stored.py {name} {{{name}}}", 300, is_gates=True) for name in STORED),
+    *(Test(f"stored {name}", f"outside/stored.py {name} {{{name}}}", at, 300, is_gates=True) for name, at in STORED.items()),
     # The built program, from outside.
     Test("cases", "outside/cases.sh {rpki_check} cases", 300),
     Test("faults", "outside/faults.py {rpki_check}", 300, needs=("plain",)),
@@ -99,9 +99,9 @@ TESTS = (
     Test("validating", "outside/validating.py {rpki_check}", 0, 900, needs=("cryptography",)),
     Test("crowded", "outside/crowded.py", 400, needs=("cryptography",)),
     Test("routers", "outside/routers.py {rpki_check} {rpki_ask}", 0, 900, needs=("cryptography",)),
-    Test("large", "outside/large.py {rpki_check} {rpki_ask} {rpki_cases}", 500, 1800, more="--huge", least="--small"),
+    Test("large", "outside/large.py {rpki_check} {rpki_ask} {questions}", 500, 1800, more="--huge", least="--small"),
     Test("lattices", "outside/lattices.py {rpki_check}", 500, needs=("cc", "plain")),
-    Test("octets", "outside/octets.py {objects_cases} {attestations_cases}", 400, 900, less="--most 2", more="--most 12", least="--most 1"),
+    Test("octets", "outside/octets.py {questions}", 400, 900, less="--most 2", more="--most 12", least="--most 1"),
     # The build by Rattle's own compiler, from outside.
     Test("cases, second compiler", "outside/cases.sh {rpki_check.by-rattle} cases", 300, needs=("second",)),
     Test("faults, second compiler", "outside/faults.py {rpki_check.by-rattle}", 300, needs=("second", "plain")),
@@ -113,13 +113,12 @@ TESTS = (
     Test("relaxed chances", "outside/rpki_random.py {rpki_check} --relaxed", 500, 7200, less="--count 1000", more="--count 20000", least="--count 100"),
     Test("chance asks", "outside/rpki_asks.py {rpki_ask}", 400, 2400, less="--count 60", more="--count 1000", least="--count 10"),
     Test("refusals", "outside/rpki_refusals.py {rpki_ask}", 400, 3600, less="--lines 800", more="--lines 12000", least="--lines 250"),
-    Test("chance worlds", "questions/rpki_worlds.py {rpki_cases}", 400, 2400, less="60", more="1000", least="20"),
-    Test("roles", "questions/certs_roles.py --all {objects_cases}", 300),
+    Test("chance worlds", "questions/rpki_worlds.py {questions}", 400, 2400, less="60", more="1000", least="20"),
     # A second reading of which attestations are valid.
-    Test("attestations", "questions/objects_rta_valid_cases.py {attestations_cases}", 300),
+    Test("attestations", "questions/objects_rta_valid.py {questions}", 300),
     # Growths refused in turn.
     Test("growths", "outside/growths.py {rpki_check}", 500, needs=("cc", "plain")),
-    *(Test(f"growths {name}", f"outside/calls_growths.py {{{name}}}", at, 3600, needs=("cc", "plain"), less="--few") for name, at in ASKED.items()),
+    *(Test(f"growths {member}", f"outside/calls_growths.py {{questions}} --member {member}", 600, 3600, needs=("cc", "plain"), less="--few") for member in FLOORS),
     Test("content growths", "outside/content_growths.py", 300, needs=("cc",)),
     # Bodies that always tell lack of memory.
     Test("always memory", "outside/always_memory.py", 0, 3600),
@@ -130,6 +129,11 @@ TESTS = (
 
 def programs_of(test):
     return PROGRAM.findall(test.words)
+
+
+def weight(name):
+    """How many octets a program's sources have, by which its build is dear."""
+    return sum(path.stat().st_size for path in sources(name.partition(".")[0]))
 
 
 @functools.cache
@@ -152,6 +156,7 @@ class Run:
         self.tests = [test for test in TESTS if test.limit(level) and only in test.name and not (behind_gate and test.is_gates)]
         self.passed = self.failed = self.skipped = self.unended = 0
         self.programs, self.running, self.is_ended = {}, set(), False
+        self.builds, self.waiting, self.changed = [], [], threading.Condition()
         for number in (signal.SIGTERM, signal.SIGINT, signal.SIGHUP):
             signal.signal(number, self.end)
 
@@ -168,28 +173,33 @@ class Run:
         if output:
             print("\n".join(f"    {line}" for line in output.splitlines()[-60:]), flush=True)
 
+    def is_over(self):
+        return self.is_ended or time.monotonic() >= self.until
+
     def find(self, name):
-        """The program's path, or why there is none; built without its proof where that is needed and wanted."""
+        """The program's path, or why there is none; built without its proof where that is needed and wanted. (That of questions has none.)"""
         name, dot, ending = name.partition(".")
-        path = proved(name, dot + ending)
+        path = None if name == QUESTIONS else proved(name, dot + ending)
         if path and (self.built or is_newer(path, name)):
             return path, None
         if dot:
             return None, LACKS["second"]
-        if self.built:
+        if self.built and name != QUESTIONS:
             return None, f"crates/{name}/out/{name} isn't there"
+        path, _, is_there = kept(name)
+        return (path, None) if is_there else self.build(name)
+
+    def build(self, name):
+        print(f"{name}: is built without a proof", flush=True)
         began = time.monotonic()
         try:
-            made = unproved(name)
+            path, why = unproved(name, self.is_over), None
         except (OSError, RuntimeError, subprocess.SubprocessError) as error:
-            return None, str(error)
-        print(f"{name}: built without its proof ({time.monotonic() - began:.0f} s)", flush=True)
-        return made, None
-
-    def find_all(self, lanes):
-        names = sorted({name for test in self.tests for name in programs_of(test)})
-        with concurrent.futures.ThreadPoolExecutor(lanes) as pool:
-            self.programs = dict(zip(names, pool.map(self.find, names)))
+            path, why = None, str(error)
+        took = time.monotonic() - began
+        self.builds.append(f"{name} {took:.0f} s")
+        print(f"{name}: {'built' if path else 'not built'} ({took:.0f} s)", flush=True)
+        return path, why
 
     def is_plain(self, test):
         """Whether no program that the test takes has the checks of AddressSanitizer."""
@@ -217,9 +227,9 @@ class Run:
         words[0] = str(TOP / "tests" / words[0])
         if words[0].endswith(".py"):
             words = [sys.executable, "-B", *words]
-        return self.call(words, test.limit(self.level), 1 if is_plain else SLOWER)
+        return self.call(words, test.limit(self.level), 1 if is_plain else SLOWER, test.floor)
 
-    def call(self, words, limit, slower):
+    def call(self, words, limit, slower, floor):
         began = time.monotonic()
         # (behind the gate the whole run has a limit, and the machine may be a slow one)
         limit, left = limit * slower * (3 if self.behind_gate else 1), max(self.until - began, 0)
@@ -242,23 +252,62 @@ class Run:
             output = told.read()
         if late and left < limit:
             return 0, 0, f"not ended: the time is up ({left:.0f} s)", ""
+        return self.counted(run.returncode, output, f"{late} ({time.monotonic() - began:.0f} s)", floor)
+
+    def counted(self, status, output, how, floor):
+        """How many passed and failed of what a test printed, and what is said of it."""
         counts = [COUNTS.fullmatch(line) for line in output.splitlines() if COUNTS.fullmatch(line)]
-        passed, failed = map(int, counts[-1].groups()) if counts else (int(run.returncode == 0), 0)
-        failed = failed or int(run.returncode != 0)
-        took = time.monotonic() - began
-        return passed, failed, f"{passed} passed, {failed} failed{late} ({took:.0f} s)", output if failed else ""
+        passed, failed = map(int, counts[-1].groups()) if counts else (int(status == 0), 0)
+        failed = failed or int(status != 0)
+        if status == 0 and passed < floor:
+            failed, output = failed + 1, f"{output}\n{passed} questions are asked, and there were {floor} at least"
+        return passed, failed, f"{passed} passed, {failed} failed{how}", output if failed else ""
+
+    def note(self, test, outcome):
+        passed, failed, said, output = outcome
+        self.passed, self.failed = self.passed + passed, self.failed + failed
+        self.skipped += said.startswith("skipped")
+        self.unended += said.startswith(("not begun", "not ended"))
+        self.say(test.name, said, output)
+
+    def find_one(self, name):
+        try:
+            self.programs[name] = self.find(name)
+        except Exception as why:
+            self.programs[name] = None, f"not found: {why!r}"
+
+    def run_one(self, test):
+        try:
+            outcome = self.take(test)
+        except Exception as why:
+            outcome = 0, 1, f"not run: {why!r}", ""
+        with self.changed:
+            self.note(test, outcome)
+
+    def work(self):
+        """Does what waits, as soon as the programs that it takes are there."""
+        while True:
+            with self.changed:
+                while not (ready := next((step for step in self.waiting if self.programs.keys() >= step[0]), None)) and self.waiting:
+                    self.changed.wait()
+                if ready is None:
+                    return
+                self.waiting.remove(ready)
+            ready[1]()
+            with self.changed:
+                self.changed.notify_all()
 
     def run_all(self, lanes):
+        """Finds the programs, the dearest first, and runs each test once its programs are there, those that may take longest first."""
+        names = sorted({name for test in self.tests for name in programs_of(test)}, key=weight, reverse=True)
+        tests = sorted(self.tests, key=lambda test: -test.limit(self.level))
+        self.waiting = [(set(), functools.partial(self.find_one, name)) for name in names]
+        self.waiting += [(set(programs_of(test)), functools.partial(self.run_one, test)) for test in tests]
         with concurrent.futures.ThreadPoolExecutor(lanes) as pool:
-            ordered = sorted(self.tests, key=lambda test: -test.limit(self.level))
-            running = {pool.submit(self.take, test): test for test in ordered}
-            for done in concurrent.futures.as_completed(running):
-                why = done.exception()
-                passed, failed, said, output = (0, 1, f"not run: {why}", "") if why else done.result()
-                self.passed, self.failed = self.passed + passed, self.failed + failed
-                self.skipped += said.startswith("skipped")
-                self.unended += said.startswith(("not begun", "not ended"))
-                self.say(running[done].name, said, output)
+            for lane in [pool.submit(self.work) for _ in range(lanes)]:
+                lane.result()
+        if self.builds:
+            print(f"built without a proof: {', '.join(self.builds)}", flush=True)
 
     def add_gate(self, line):
         """Adds the counts that the last line of `rt ci` has; one that has none is a failure."""
@@ -274,7 +323,6 @@ def run(level, only, built, seconds=None, gate=None):
     lanes = len(os.sched_getaffinity(0))
     began = time.monotonic()
     table = Run(level, only, built, seconds, gate is not None)
-    table.find_all(lanes)
     table.run_all(lanes)
     if gate is not None:
         table.add_gate(gate)

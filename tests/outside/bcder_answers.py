@@ -3,7 +3,7 @@
 
 BCDER is the folder that `dpkg -x` made of Debian's packages librust-bcder-dev, librust-bytes-dev and
 librust-smallvec-dev. In FOLDER, or a temporary one, bcder_answers.rs.in is built with them by cargo; the other
-program is crates/bcder_cases, which `rt run` proves and builds.
+program is `questions`, which tests/lib/programs.py builds of tests/program.
 
 Both answer the same questions, in each mode: of each kind of value on 10,000 octet strings, half of them made of
 values, a third of these changed in one place, half of them chance; on all octet strings of up to two octets; on all of
@@ -12,7 +12,7 @@ three and four octets of EDGES. Each answer that differs has to be of one of the
 reading of the octets, with the reason. Exits with 1 where one isn't.
 
 With --record, some 2,000 questions on which both agree are written to bcder_answers.txt, with the Rust crate's answers;
-`bcder_cases.py` puts them among the questions on which the gate runs the program.
+tests/questions/codec.py asks them in front of its own.
 """
 
 import collections
@@ -28,8 +28,11 @@ import tempfile
 import typing
 
 HERE = pathlib.Path(__file__).resolve().parent
-ROOT = HERE.parents[1]
-CRATE = ROOT / "crates" / "bcder_cases"
+sys.dont_write_bytecode = True
+sys.path.insert(0, str(HERE.parent / "lib"))
+
+from programs import QUESTIONS, unproved  # noqa: E402
+
 RECORD = HERE.parent / "questions" / "bcder_answers.txt"
 MODES = ("ber", "cer", "der")
 INTEGERS = ("i8", "u8", "i64", "u64", "u128", "integer", "unsigned")
@@ -486,12 +489,6 @@ def build_rust(folder, packages):
     return os.path.join(folder, "target", "release", "bcder_answers")
 
 
-def build():
-    """Proves and builds the program of the crate; its path."""
-    run(["rt", "run"], CRATE)
-    return str(CRATE / "out" / "bcder_cases")
-
-
 def words(question):
     mode, kind, octets = question
     return f"{mode} {kind} {octets.hex()}"
@@ -499,8 +496,8 @@ def words(question):
 
 def line(program, question):
     """The question as a program is asked it."""
-    if pathlib.Path(program).name == "bcder_cases":
-        return "front\t" + words(question).replace(" ", "\t") + "\n"
+    if pathlib.Path(program).name == QUESTIONS:
+        return "codec\tfront\t" + words(question).replace(" ", "\t") + "\n"
     return words(question) + "\n"
 
 
@@ -561,7 +558,7 @@ def main():
     if len(given) not in (1, 2):
         sys.exit("usage: bcder_answers.py [--record] BCDER [FOLDER]")
     with tempfile.TemporaryDirectory() as folder:
-        programs = [build_rust(given[1] if len(given) == 2 else folder, given[0]), build()]
+        programs = [build_rust(given[1] if len(given) == 2 else folder, given[0]), str(unproved(QUESTIONS))]
         if "--record" in sys.argv:
             record(programs)
         elif compare_all(programs) > 0:

@@ -1,19 +1,19 @@
 #!/usr/bin/env python3
 """Shows how the libraries' calls answer where growths of memory are refused.
 
-    calls_growths.py PROGRAM.. [--few] [--only WORD]
+    calls_growths.py PROGRAM [--member MEMBER].. [--few] [--only WORD]
 
-Each PROGRAM is crates/NAME/out/NAME of a program of questions. A row of the table below names calls, and the stored questions that
-ask them; of five worked cases walks, judges, reaches and chains (`rpki_cases`) and points (`bundles_cases`) are asked, too, whose
-answers are those of the second reading (`rpki_model.py`). Some questions of each kind of each row are asked, and one for each
-setting, one a run, with each growth of memory refused in turn, alone and with all that come after it (with --few, one question of
-each kind, and each growth alone), by `refuse_growth.c`, which is preloaded.
+PROGRAM is a build of tests/program. A row of the table below names calls, and the questions of a member that ask them, which the
+member's script in tests/questions has; of five worked cases walks, judges, reaches, chains and points are asked, too, whose answers are
+those of the second reading (`rpki_model.py`). Some questions of each kind of each row are asked, and one for each setting, one a run,
+with each growth of memory refused in turn, alone and with all that come after it (with --few, one question of each kind, and each growth
+alone), by `refuse_growth.c`, which is preloaded. With --member only these members' rows are asked.
 
 The answer has to be the right one, or a front of its words and then that memory is lacking, or that something is refused for lack of
 memory; or the program ends with that fault and no answer. A word of an answer that finds no memory is left out, and octets of a
 question that find none are taken for none. So growths of the answer itself and those that hold a question's octets are spared, but for
 the first of the answer's, and of its parts', which can't be told from others: where one of these is refused, a word goes, or its first
-sign. Where a program of questions tells less (it answers `unreadable`, whatever the error), those words are taken for an answer of it.
+sign. Where a member tells less (it answers `unreadable`, whatever the error), those words are taken for an answer of it.
 
 Prints the runs of each row, a line for each run that wasn't right, and `N passed, M failed`, a run being one test.
 """
@@ -21,6 +21,7 @@ Prints the runs of each row, a line for each run that wasn't right, and `N passe
 import argparse
 import collections
 import concurrent.futures
+import importlib
 import os
 import re
 import string
@@ -48,23 +49,25 @@ WORD = re.compile(r"[^][(),]+")  # (what stands in brackets is no word of an ans
 GREAT = "(not implemented)"  # how a component of an identifier is told that is no number of 32 bits, within a word
 MEMORY = re.compile(r"(?:out of |no )?memory", re.IGNORECASE)
 SIGNS = string.whitespace + string.punctuation.replace("_", "")
-# What these programs of questions answer where something that they need first can't be read, whatever the error. (The others tell it.)
+# What questions of a member are answered where something that they need first can't be read, whatever the error; of the validator's that
+# is so but for a few topics. (The others tell each error.)
 UNTOLD = {
-    "bundles_cases": re.compile(r"no (anchor|authority|certificate|chain)|unreadable( asked 0)?"),
-    "resources_cases": re.compile(r"refused: no (AS resources|IP resources|family)"),
+    "resources": re.compile(r"refused: no (AS resources|IP resources|family)"),
+    "validator": re.compile(r"no (anchor|authority|certificate|chain)|unreadable( asked 0)?"),
 }
+TOLD = ("ask", "walk", "witnesses", "judge", "reach", "naming")
 NOTHING = re.compile(r"(?!)")
 
 
 class Row(typing.NamedTuple):
-    """A program, the first words of questions, the calls that they ask, how many questions are asked, and what else the program answers
-    where a growth is refused, as a pattern: how it says lack of memory, or that its own writer is full. Where words such as `v4=listed`
-    set something by calls of their own, one question more is asked of each that no other one sets.
+    """A member, the first words of questions to it, the calls that they ask, how many questions are asked, and what else is answered
+    where a growth is refused, as a pattern: how lack of memory is said, or that a writer of the program's own is full. Where words such as
+    `v4=listed` set something by calls of their own, one question more is asked of each that no other one sets.
 
     Of the words `*` is any, and `+` is any, too, and says what is asked: so many questions are asked of each. The calls are types with
     their calls behind them, and functions, as `tests/tools/growing.py` reads them; what is named otherwise it passes over."""
 
-    program: str
+    member: str
     words: str
     calls: str
     most: int = 2
@@ -82,37 +85,37 @@ class Row(typing.NamedTuple):
 ROWS = (
     # Values that are read, gone past, captured and written.
     Row(
-        "bcder_cases",
+        "codec",
         "front * +",
         "Constructed: take_primitive_if, take_bool, take_null, take_u8, take_u64, skip_one, capture_one; Primitive: to_i8, "
         "to_i64, to_u128; Integer, Unsigned, Oid, BitString, OctetString, RestrictedString: take_from; Decode: decode",
     ),
     Row(
-        "bcder_cases",
+        "codec",
         "content * * +",
         "Constructed: take_.., skip_.., capture_.., capture; Content: primitive, constructed; Primitive: to_u8, to_null, "
         "skip_all, take_all; Captured: decode, decode_partial; read_front, request_all, take_front",
     ),
-    Row("bcder_cases", "constructed +", "Constructed: decode", 1),
-    Row("bcder_cases", "walks +", "Constructed: skip_one, capture_one"),
-    Row("bcder_cases", "skip visits", "Constructed: skip"),
-    Row("bcder_cases", "skip refused", "Constructed: skip"),
-    Row("bcder_cases", "tagged +", "Constructed: take_value, take_value_if; Content: to_.., skip_u8_if"),
+    Row("codec", "constructed +", "Constructed: decode", 1),
+    Row("codec", "walks +", "Constructed: skip_one, capture_one"),
+    Row("codec", "skip visits", "Constructed: skip"),
+    Row("codec", "skip refused", "Constructed: skip"),
+    Row("codec", "tagged +", "Constructed: take_value, take_value_if; Content: to_.., skip_u8_if"),
     Row(
-        "bcder_cases",
+        "codec",
         "source +",
         "Source: request, bytes, skip, take_u8, take_opt_u8; LimitedSource: skip_all, take_all, exhausted; CaptureSource: "
         "into_bytes; BytesSource: split_to; Primitive: to_bool, to_null, to_u16, to_u32, skip_u8_if, skip_all, take_all",
     ),
     Row(
-        "bcder_cases",
+        "codec",
         "write * * +",
         "Values, PrimitiveContent: encoded_len, write_encoded, write_known; CapturedBuilder: new, with_capacity, from_captured, "
         "extend, freeze; total_encoded_len, write_header, write_octets",
     ),
     # Integers, identifiers, strings.
     Row(
-        "bcder_cases",
+        "codec",
         "number + *",
         "Primitive: to_..; Integer: i8_from_primitive, i16_from_primitive, i32_from_primitive, i64_from_primitive, "
         "i128_from_primitive, u8_from_primitive, u16_from_primitive, u32_from_primitive, u64_from_primitive, "
@@ -120,58 +123,58 @@ ROWS = (
         "u128_from_primitive",
         4,
     ),
-    Row("bcder_cases", "integer +", "Integer: from_primitive, from_..; Primitive: decode_slice", 3),
-    Row("bcder_cases", "integer from +", "Integer: from_.., each type"),
-    Row("bcder_cases", "unsigned +", "Unsigned: from_primitive, from_slice, from_bytes, from_..", 3),
-    Row("bcder_cases", "unsigned from +", "Unsigned: from_.., each type"),
+    Row("codec", "integer +", "Integer: from_primitive, from_..; Primitive: decode_slice", 3),
+    Row("codec", "integer from +", "Integer: from_.., each type"),
+    Row("codec", "unsigned +", "Unsigned: from_primitive, from_slice, from_bytes, from_..", 3),
+    Row("codec", "unsigned from +", "Unsigned: from_.., each type"),
     Row(
-        "bcder_cases",
+        "codec",
         "oid +",
         "Oid: take_from, take_opt_from, skip_in, skip_opt_in, skip_if, skip_primitive, from_primitive, from_str",
         3,
     ),
-    Row("bcder_cases", "bits +", "BitString: take_from, skip_in, from_content, octet_bytes", 3),
-    Row("bcder_cases", "octets +", "OctetString: take_from, take_opt_from, from_content, to_bytes", 3),
-    Row("bcder_cases", "string * +", "RestrictedString: take_from, take_opt_from, from_content, from_str, from_string, to_bytes"),
+    Row("codec", "bits +", "BitString: take_from, skip_in, from_content, octet_bytes", 3),
+    Row("codec", "octets +", "OctetString: take_from, take_opt_from, from_content, to_bytes", 3),
+    Row("codec", "string * +", "RestrictedString: take_from, take_opt_from, from_content, from_str, from_string, to_bytes"),
     # Sets of numbers.
     Row(
-        "resources_cases",
+        "resources",
         "as +",
         "AsBlocks: from_str, from_resources, union, intersection, difference, verify_issued, verify_covered, verify_path, "
         "take_from, clone; AsResources: take_from, to_blocks, from_str; AsBlock, Asn: take_opt_from, skip_opt_in, skip_in; "
         "Chain: trim",
     ),
     Row(
-        "resources_cases",
+        "resources",
         "v4 +",
         "IpBlocks, of IPv4: from_str, from_resources, union, intersection, difference, verify_issued, verify_covered, "
         "verify_path, clone; IpResources: to_blocks",
     ),
-    Row("resources_cases", "v6 +", "IpBlocks, of IPv6: the same"),
+    Row("resources", "v6 +", "IpBlocks, of IPv6: the same"),
     Row(
-        "resources_cases",
+        "resources",
         "ip +",
         "IpResources: take_families_from, take_from; IpBlocks: take_from; IpBlock, AddressRange, Prefix, AddressFamily: "
         "take_from, take_opt_from, skip_opt_in",
     ),
-    Row("resources_cases", "all +", "ResourceSet: from_strs, from_resources, to_as_resources, union, intersection, difference"),
-    Row("resources_cases", "call prefix +", "Prefix: from_v4_str, from_v6_str, from_family_str"),
-    Row("resources_cases", "call max +", "prefixes with a greatest length: from_str"),
-    Row("resources_cases", "call addr +", "Addr, Prefix: from_family_str, from_v4_str, from_v6_str"),
-    Row("resources_cases", "call range +", "AddressRange: from_v4_str, from_v6_str, from_family_str"),
-    Row("resources_cases", "call block +", "IpBlock: from_v4_str, from_v6_str, from_family_str"),
-    Row("resources_cases", "call asn +", "SmallAsnSet: new, from_iter, insert; OwnedChain: from_vec"),
-    Row("resources_cases", "call as +", "AsBlocks: all, from_iter, intersection_assign; AsBlocksBuilder: new, push, finalize"),
+    Row("resources", "all +", "ResourceSet: from_strs, from_resources, to_as_resources, union, intersection, difference"),
+    Row("resources", "call prefix +", "Prefix: from_v4_str, from_v6_str, from_family_str"),
+    Row("resources", "call max +", "prefixes with a greatest length: from_str"),
+    Row("resources", "call addr +", "Addr, Prefix: from_family_str, from_v4_str, from_v6_str"),
+    Row("resources", "call range +", "AddressRange: from_v4_str, from_v6_str, from_family_str"),
+    Row("resources", "call block +", "IpBlock: from_v4_str, from_v6_str, from_family_str"),
+    Row("resources", "call asn +", "SmallAsnSet: new, from_iter, insert; OwnedChain: from_vec"),
+    Row("resources", "call as +", "AsBlocks: all, from_iter, intersection_assign; AsBlocksBuilder: new, push, finalize"),
     Row(
-        "resources_cases",
+        "resources",
         "call chain +",
         "Chain: trim, difference, intersection, union; OwnedChain: empty, from_vec, from_iter; SharedChain: from_owned, "
         "from_iter, verify_issued, verify_covered, verify_path, clone; ResourcesChoice: to_blocks",
     ),
-    Row("resources_cases", "call family +", "FamilyBlocks: all, from_iter, from_str, to_ip_resources; IpBlocks: all"),
-    Row("resources_cases", "call list +", "orders of lists, places in chains"),
+    Row("resources", "call family +", "FamilyBlocks: all, from_iter, from_str, to_ip_resources; IpBlocks: all"),
+    Row("resources", "call list +", "orders of lists, places in chains"),
     Row(
-        "resources_cases",
+        "resources",
         "resources +",
         "AsResourcesBuilder, IpResourcesBuilder: blocks, finalize; AsBlocks, IpBlocks: all, from_iter, from_resources, "
         "intersection_assign; IpBlocksBuilder: new, push, finalize",
@@ -179,13 +182,13 @@ ROWS = (
         others="false",
     ),
     Row(
-        "resources_cases",
+        "resources",
         "set +",
         "ResourceSet: all, to_as_resources, to_ip_resources_v4, to_ip_resources_v6, from_strs; AsBlocks, FamilyBlocks: "
         "check_str",
     ),
     Row(
-        "resources_cases",
+        "resources",
         "der +",
         "Asn: take_from, take_opt_from, skip_in; AsBlock: take_opt_from, skip_opt_in; AsBlocks, AsResources, IpBlocks, "
         "IpResources: take_from; IpResources: take_families_from; AddressFamily: take_from, take_opt_from, skip_opt_in; "
@@ -193,35 +196,35 @@ ROWS = (
     ),
     # Names, keys, moments, algorithms.
     Row(
-        "objects_cases",
+        "certificates",
         "uri + +",
         "Rsync: from_bytes, from_slice, join, parent, lookup_key; Https: from_bytes, from_slice, lookup_key; lookup_key",
     ),
-    Row("objects_cases", "access +", "the URIs of each general name", 3),
-    Row("objects_cases", "name +", "Name: take_from, from_key_identifier", 3),
-    Row("objects_cases", "serial +", "Serial: take_from, from_primitive, from_slice", 3),
-    Row("objects_cases", "time +", "Time: take_from, take_generalized_from; Validity: take_from; Verify: verify_validity", 3),
-    Row("objects_cases", "key +", "PublicKey: decode, take_from, to_subject_name, clone; KeyIdentifier: take_from, from_content", 4),
+    Row("certificates", "access +", "the URIs of each general name", 3),
+    Row("certificates", "name +", "Name: take_from, from_key_identifier", 3),
+    Row("certificates", "serial +", "Serial: take_from, from_primitive, from_slice", 3),
+    Row("certificates", "time +", "Time: take_from, take_generalized_from; Validity: take_from; Verify: verify_validity", 3),
+    Row("certificates", "key +", "PublicKey: decode, take_from, to_subject_name, clone; KeyIdentifier: take_from, from_content", 4),
     Row(
-        "objects_cases",
+        "certificates",
         "signed +",
         "SignedData: decode, take_from, from_constructed; SignatureAlgorithm: x509_take_from; RpkiSignatureAlgorithm: "
         "cms_take_from; DigestAlgorithm: take_from, take_opt_from, take_set_from; Signature: into_value",
         3,
     ),
     # Certificates.
-    Row("objects_cases", "cert read +", "Cert: decode, to_captured, clone", 4),
-    Row("objects_cases", "cert within +", "Cert: take_from, take_opt_from, from_constructed; TbsCert: from_constructed"),
-    Row("objects_cases", "cert inspect +", "each inspect_.."),
-    Row("objects_cases", "cert anchor +", "Validate: validate_ta_at, validate_ta; Verify: verify_ta_at, verify_ta; TalInfo: into_rc"),
+    Row("certificates", "cert read +", "Cert: decode, to_captured, clone", 4),
+    Row("certificates", "cert within +", "Cert: take_from, take_opt_from, from_constructed; TbsCert: from_constructed"),
+    Row("certificates", "cert inspect +", "each inspect_.."),
+    Row("certificates", "cert anchor +", "Validate: validate_ta_at, validate_ta; Verify: verify_ta_at, verify_ta; TalInfo: into_rc"),
     Row(
-        "objects_cases",
+        "certificates",
         "cert issued * +",
         "Validate: validate_ca_at, validate_ca, validate_ee_at, validate_ee, validate_detached_ee_at, validate_detached_ee, "
         "validate_router_at, validate_router; Verify: verify_..",
     ),
     Row(
-        "objects_cases",
+        "certificates",
         "cert built +",
         "TbsCert: new, build_.., v4_resources_from_iter, v6_resources_from_iter, as_resources_from_iter, clone; "
         "ExtendedKeyUsage: create_router, take_from; BuildCert: into_cert; Signer: get_key_info, sign, sign_one_off",
@@ -230,46 +233,46 @@ ROWS = (
     ),
     # Revocation lists.
     Row(
-        "objects_cases",
+        "certificates",
         "crl +",
         "Crl: decode, cache_serials, verify_issuer_claim, verify_signature, to_captured, clone; SignedData: verify_signature; "
         "SignedDataValues: in_der; SerialCache: new; RevokedCertificates: serials; InvalidExtension: to_content_error",
         4,
     ),
-    Row("objects_cases", "store +", "CrlStore: new, push, clone"),
-    Row("objects_cases", "entry +", "CrlEntry: take_from, take_opt_from, from_constructed", 3),
-    Row("objects_cases", "listed +", "RevokedCertificates: take_from, take_opt_from, from_entries, clone", 3),
+    Row("certificates", "store +", "CrlStore: new, push, clone"),
+    Row("certificates", "entry +", "CrlEntry: take_from, take_opt_from, from_constructed", 3),
+    Row("certificates", "listed +", "RevokedCertificates: take_from, take_opt_from, from_entries, clone", 3),
     Row(
-        "objects_cases",
+        "certificates",
         "made +",
         "TbsCertList: into_crl, into_revoked, clone; IntoRevoked: into_revoked; RevokedCertificates: from_entries; Signer: sign",
         3,
     ),
-    Row("objects_cases", "made set +", "TbsCertList: each set_..", 1),
-    Row("objects_cases", "within +", "Crl: take_from, take_opt_from, from_constructed, clone; TbsCertList: take_from", 3),
+    Row("certificates", "made set +", "TbsCertList: each set_..", 1),
+    Row("certificates", "within +", "Crl: take_from, take_opt_from, from_constructed, clone; TbsCertList: take_from", 3),
     # Signed objects, contents, locators.
     Row(
-        "objects_cases",
+        "objects",
         "object strict +",
         "SignedObject: decode, take_from; SignerInfo, SignedAttrs: take_from, from_constructed; EncodeAttributes: "
         "message_digest",
     ),
-    Row("objects_cases", "object relaxed +", "the same, in BER"),
-    Row("objects_cases", "again strict +", "EncodeObject: to_captured, encode_ref"),
-    Row("objects_cases", "again relaxed +", "the same, in BER"),
-    Row("objects_cases", "attributes +", "EncodeAttributes: encode_ref, encode_verify, message_digest"),
-    Row("objects_cases", "message", "EncodeAttributes: take_from_signed_message; SignedAttrs: take_from"),
-    Row("objects_cases", "content +", "DecodeContent: decode_content"),
-    Row("objects_cases", "manifest +", "ManifestContent: take_from, decode; FileList: take_from", 4),
-    Row("objects_cases", "roa", "RouteOriginAttestation: take_from, decode; RoaIpAddresses: take_from; RoaIpAddress: take_opt_from", 4),
-    Row("objects_cases", "aspa", "AsProviderAttestation: take_from, decode, as_resources; ProviderAsSet: take_from, to_set", 4),
-    Row("objects_cases", "uris", "ManifestFiles: iter_uris", 3),
-    Row("objects_cases", "make", "ManifestBuilder: new, push, to_content", 3),
-    Row("objects_cases", "addresses", "RoaIpAddresses: encode_ref", 3),
-    Row("objects_cases", "locator +", "Tal: read_named, from_text; TalUri: from_bytes, from_string, from_slice", 4),
+    Row("objects", "object relaxed +", "the same, in BER"),
+    Row("objects", "again strict +", "EncodeObject: to_captured, encode_ref"),
+    Row("objects", "again relaxed +", "the same, in BER"),
+    Row("objects", "attributes +", "EncodeAttributes: encode_ref, encode_verify, message_digest"),
+    Row("objects", "message", "EncodeAttributes: take_from_signed_message; SignedAttrs: take_from"),
+    Row("objects", "content +", "DecodeContent: decode_content"),
+    Row("objects", "manifest +", "ManifestContent: take_from, decode; FileList: take_from", 4),
+    Row("objects", "roa", "RouteOriginAttestation: take_from, decode; RoaIpAddresses: take_from; RoaIpAddress: take_opt_from", 4),
+    Row("objects", "aspa", "AsProviderAttestation: take_from, decode, as_resources; ProviderAsSet: take_from, to_set", 4),
+    Row("objects", "uris", "ManifestFiles: iter_uris", 3),
+    Row("objects", "make", "ManifestBuilder: new, push, to_content", 3),
+    Row("objects", "addresses", "RoaIpAddresses: encode_ref", 3),
+    Row("objects", "locator +", "Tal: read_named, from_text; TalUri: from_bytes, from_string, from_slice", 4),
     # Objects that are built.
     Row(
-        "objects_cases",
+        "objects",
         "built +",
         "SignedObjectBuilder: finalize, build_..; RoaBuilder: new, push_.., extend_v4_from_slice, extend_v6_from_slice, "
         "to_attestation; RoaIpAddresses: empty; RoaIpAddressesBuilder: new, push, push_addr, extend_from_slice, to_addresses; "
@@ -279,55 +282,55 @@ ROWS = (
         is_set=True,
     ),
     # Signed checklists.
-    Row("objects_cases", "rsc content", "ResourceSignedChecklist: take_from, decode", 4),
-    Row("objects_cases", "rsc object", "Signed: decode", 3),
-    Row("objects_cases", "rsc process", "Signed: process_at", 3),
-    Row("objects_cases", "rsc process-clock", "Signed: process", 1),
-    Row("objects_cases", "rsc sound", "Signed: verify_content", 1),
+    Row("objects", "rsc content", "ResourceSignedChecklist: take_from, decode", 4),
+    Row("objects", "rsc object", "Signed: decode", 3),
+    Row("objects", "rsc process", "Signed: process_at", 3),
+    Row("objects", "rsc process-clock", "Signed: process", 1),
+    Row("objects", "rsc sound", "Signed: verify_content", 1),
     # Resource tagged attestations.
     Row(
-        "attestations_cases",
-        "read +",
+        "objects",
+        "rta read +",
         "Rta: decode; MultiSignedObject: take_from; ResourceTaggedAttestation: take_from; take_opt_signer",
         6,
     ),
-    Row("attestations_cases", "multi +", "MultiSignedObject: decode, decode_content", 4),
-    Row("attestations_cases", "content", "ResourceTaggedAttestation: decode", 6),
-    Row("attestations_cases", "signer +", "EncodeSigner: take_opt_from", 3),
+    Row("objects", "rta multi +", "MultiSignedObject: decode, decode_content", 4),
+    Row("objects", "rta content", "ResourceTaggedAttestation: decode", 6),
+    Row("objects", "rta signer +", "EncodeSigner: take_opt_from", 3),
     Row(
-        "attestations_cases",
-        "again +",
+        "objects",
+        "rta again +",
         "EncodeMulti: encode_ref, to_captured; EncodeAttestation: encode_ref, to_captured; EncodeSigner: encode_ref",
         4,
     ),
-    Row("attestations_cases", "valid +", "Validation: new_at, supply_ca, finalize", 20),
-    Row("attestations_cases", "clock +", "Validation: new", 4),
-    Row("attestations_cases", "built", "AttestationBuilder: new, push_key, push_as, push_v4, push_v6, into_attestation", 8),
-    Row("attestations_cases", "signed", "AttestationBuilder: into_rta_builder; RtaBuilder: from_attestation, push_cert, push_crl, sign", 12),
+    Row("objects", "rta valid +", "Validation: new_at, supply_ca, finalize", 20),
+    Row("objects", "rta clock +", "Validation: new", 4),
+    Row("objects", "rta built", "AttestationBuilder: new, push_key, push_as, push_v4, push_v6, into_attestation", 8),
+    Row("objects", "rta signed", "AttestationBuilder: into_rta_builder; RtaBuilder: from_attestation, push_cert, push_crl, sign", 12),
     # Bundles, points, validated objects.
-    Row("bundles_cases", "decode", "Bundle: decode", 3),
-    Row("bundles_cases", "again", "Bundle: decode, encode", 3),
-    Row("bundles_cases", "parts", "Bundle: from_parts, from_parts_v1", 4),
-    Row("bundles_cases", "upgrade +", "Bundle: upgrade"),
-    Row("bundles_cases", "uri", "lookup_key", 2),
-    Row("bundles_cases", "manifest +", "Manifest: validate_at, validate; Signed: decode, verify_content; SignedContent: from_content"),
-    Row("bundles_cases", "roa +", "Signed: decode, verify_content, process_at, process"),
-    Row("bundles_cases", "aspa +", "Signed: decode, verify_content, process_at, process"),
-    Row("bundles_cases", "object +", "ProcessObject: validate_at, validate_detached_at, process_at, validate, validate_detached, process"),
-    Row("bundles_cases", "sound +", "verify_content; SignedObject: verify_content", others="unsound: out of memory asked 0"),
-    Row("bundles_cases", "typed +", "DecodeIfType: decode_if_type"),
-    Row("bundles_cases", "written +", "EncodeManifest, EncodeRoa: to_octets", 3),
+    Row("validator", "decode", "Bundle: decode", 3),
+    Row("validator", "again", "Bundle: decode, encode", 3),
+    Row("validator", "parts", "Bundle: from_parts, from_parts_v1", 4),
+    Row("validator", "upgrade +", "Bundle: upgrade"),
+    Row("validator", "uri", "lookup_key", 2),
+    Row("validator", "manifest +", "Manifest: validate_at, validate; Signed: decode, verify_content; SignedContent: from_content"),
+    Row("validator", "roa +", "Signed: decode, verify_content, process_at, process"),
+    Row("validator", "aspa +", "Signed: decode, verify_content, process_at, process"),
+    Row("validator", "object +", "ProcessObject: validate_at, validate_detached_at, process_at, validate, validate_detached, process"),
+    Row("validator", "sound +", "verify_content; SignedObject: verify_content", others="unsound: out of memory asked 0"),
+    Row("validator", "typed +", "DecodeIfType: decode_if_type"),
+    Row("validator", "written +", "EncodeManifest, EncodeRoa: to_octets", 3),
     # Walks, and the programs' commands.
-    Row("rpki_cases", "ask +", "judge, reach, naming_chains, cost, through rpki_ask", 2, r"2 \[\] \[(out of memory|write fault)\|\]"),
-    Row("rpki_cases", "ask refusals", "diagnose; Path: of_locator", 6, r"2 \[\] \[(out of memory|write fault)\|\]"),
+    Row("validator", "ask +", "judge, reach, naming_chains, cost, through rpki_ask", 2, r"2 \[\] \[(out of memory|write fault)\|\]"),
+    Row("validator", "ask refusals", "diagnose; Path: of_locator", 6, r"2 \[\] \[(out of memory|write fault)\|\]"),
     # (what asks these is made below)
-    Row("rpki_cases", "walk", "walk, walk_lines, run, read_bundle, render; Bundle: decode_shared; Report, Path: new, longer", 4, "write fault "),
-    Row("rpki_cases", "witnesses", "walk; Report: new", 4),
-    Row("rpki_cases", "judge", "judge, judge_by", 4),
-    Row("rpki_cases", "reach", "reach", 4),
-    Row("rpki_cases", "naming", "naming_chains", 4),
-    Row("bundles_cases", "point", "point", 4),
-    Row("bundles_cases", "unheld", "point_unheld", 4),
+    Row("validator", "walk", "walk, walk_lines, run, read_bundle, render; Bundle: decode_shared; Report, Path: new, longer", 4, "write fault "),
+    Row("validator", "witnesses", "walk; Report: new", 4),
+    Row("validator", "judge", "judge, judge_by", 4),
+    Row("validator", "reach", "reach", 4),
+    Row("validator", "naming", "naming_chains", 4),
+    Row("validator", "point", "point", 4),
+    Row("validator", "unheld", "point_unheld", 4),
 )
 
 CASES = {
@@ -366,22 +369,20 @@ def points(octets, _few):
             yield topic, tuple(word.decode() if isinstance(word, bytes) else word for word in words), answer
 
 
-# What is asked of the bundles of the worked cases, by the program.
-OF_CASES = {"bundles_cases": points, "rpki_cases": walks}
+# What is asked of the bundles of the worked cases, by the member.
+OF_CASES = {"validator": (points, walks)}
+# What worlds are told line by line needs the lines before.
+BY_LINES = "world"
 
 
-def stored(name):
-    """The stored questions of a program with their answers, by each row's words."""
-    folder = os.path.join(TOP, "crates", name)
-    with open(os.path.join(folder, "stdin")) as asked, open(os.path.join(folder, "stdout")) as answered:
-        if name == "rpki_cases":
-            # (what is said of worlds has no answer of its own)
-            pairs = zip((line for line in asked if not line.startswith("world")), answered)
-        else:
-            pairs = zip(asked, answered, strict=True)
-        for question, answer in pairs:
-            if len(question) <= LONGEST:
-                yield question[:-1], answer[:-1]
+def written(member):
+    """The questions that a member's script has with their answers, but for the long ones."""
+    for question, answer in importlib.import_module(member).questions():
+        named, _, words = question.partition("\t")
+        if named != member:
+            raise ValueError(f"tests/questions/{member}.py asks {question[:100]!r}")
+        if len(words) < LONGEST and not words.startswith(BY_LINES):
+            yield question, answer
 
 
 def spread(found, most):
@@ -398,13 +399,13 @@ def settings_left(shortest, asked):
     return dict.fromkeys(one for setting, one in shortest.items() if setting not in has)
 
 
-def questions(name, few):
+def questions(member, few):
     """By row the questions that are asked, with their answers."""
-    rows = [row for row in ROWS if row.program == name]
+    rows = [row for row in ROWS if row.member == member]
     found = {row: collections.defaultdict(dict) for row in rows}
     shortest = {row: {} for row in rows if row.is_set}
-    for question, answer in stored(name):
-        words = question.split("\t")
+    for question, answer in written(member):
+        words = question.split("\t")[1:]
         for row in rows:
             kind = row.kind(words)
             if kind is not None:
@@ -415,10 +416,11 @@ def questions(name, few):
     asked = {row: [it for kind in found[row].values() for it in spread(kind, 1 if few else row.most)] for row in rows}
     for row in shortest:
         asked[row] += settings_left(shortest[row], asked[row])
-    for make in CASES.values() if name in OF_CASES else ():
-        for topic, words, answer in OF_CASES[name](make().bundle(), few):
+    for make in CASES.values() if member in OF_CASES else ():
+        octets = make().bundle()
+        for topic, words, answer in (it for of_case in OF_CASES[member] for it in of_case(octets, few)):
             row = next(row for row in rows if row.words == topic)
-            asked[row].append(("\t".join(words), answer))
+            asked[row].append(("\t".join((member, *words)), answer))
     return asked
 
 
@@ -440,7 +442,8 @@ def is_right(outcome, answer, row):
     line = told.decode(errors="replace").removesuffix("\n")
     if line in (answer, OCTETS.sub("x", answer)) or (line == FIXED and answer.startswith(FIXED + " ")):
         return True
-    if UNTOLD.get(row.program, NOTHING).fullmatch(line) or (row.others and re.fullmatch(row.others, line)):
+    untold = NOTHING if row.words.split()[0] in TOLD else UNTOLD.get(row.member, NOTHING)
+    if untold.fullmatch(line) or (row.others and re.fullmatch(row.others, line)):
         return True
     front = front_of(line)
     return front is not None and answer.startswith(front)
@@ -495,22 +498,24 @@ def try_row(pool, program, shim, row, asked, few):
             print(f"  {question[:100]!r}, {first} and {times - 1} others: status {status}, {told[:200]!r} {fault[:200]!r}")
         if wrong:
             print(f"  {answer[:200]!r} is right", flush=True)
-    print(f"{row.program} {row.words} ({row.calls}): {len(asked)} questions, {runs} runs, {failed} wrong", flush=True)
+    print(f"{row.member} {row.words} ({row.calls}): {len(asked)} questions, {runs} runs, {failed} wrong", flush=True)
     return runs - failed, failed or int(not asked)
 
 
 def main():
+    members = list(dict.fromkeys(row.member for row in ROWS))
     parser = argparse.ArgumentParser(description=__doc__, formatter_class=argparse.RawDescriptionHelpFormatter)
-    parser.add_argument("programs", nargs="+", metavar="PROGRAM")
+    parser.add_argument("program", metavar="PROGRAM")
+    parser.add_argument("--member", action="append", choices=members, dest="members", default=[])
     parser.add_argument("--few", action="store_true")
     parser.add_argument("--only", default="", metavar="WORD")
     given = parser.parse_args()
     sys.path.append(os.path.join(TOP, "tests", "questions"))
-    counts = []
+    program, counts = os.path.abspath(given.program), []
     with tempfile.TemporaryDirectory() as folder, concurrent.futures.ThreadPoolExecutor(len(os.sched_getaffinity(0))) as pool:
         shim = compiled(folder)
-        for program in map(os.path.abspath, given.programs):
-            for row, asked in questions(os.path.basename(program), given.few).items():
+        for member in given.members or members:
+            for row, asked in questions(member, given.few).items():
                 if given.only in row.words:
                     counts.append(try_row(pool, program, shim, row, asked, given.few))
     passed, failed = map(sum, zip(*counts))

@@ -1,7 +1,7 @@
 #!/usr/bin/env python3
 """Asks the built programs about long chains, many URIs and large bundles.
 
-    large.py RPKI_CHECK RPKI_ASK RPKI_CASES [--small | --huge]
+    large.py RPKI_CHECK RPKI_ASK QUESTIONS [--small | --huge]      (QUESTIONS is the program of tests/program)
 
 Chains of 1, 2, 31, 32 and 33 certificates stand below a locator, each authority with an origin of its own, in bundles of depth 1, 31
 and 32: printed is what the first ones attest, as many as the depth allows, and that the next certificate is refused. Each good
@@ -194,19 +194,19 @@ def reached(places):
     return "as \nipv4 " + ", ".join(places) + "\nipv6 \n"
 
 
-def many(tests, ask, cases):
+def many(tests, ask, questions):
     world, uris, ways = siblings()
     octets = world.bundle()
-    named = lambda uris: "\t".join(["naming", ",".join(uris), octets.hex()]).encode() + b"\n"
+    named = lambda uris: "\t".join(["validator", "naming", ",".join(uris), octets.hex()]).encode() + b"\n"
     places = [f"10.{2 * at}.0.0/16" for at in range(MANY)]
     tests.gives(f"{MANY} URIs", [ask, "reach", *uris], octets, 0, reached(places))
     tests.gives(f"{MANY} URIs, the last first", [ask, "reach", *reversed(uris)], octets, 0, reached(places))
-    tests.gives(f"{MANY} URIs, by name", [cases], named(uris), 0, " ".join(sorted(ways)) + "\n")
+    tests.gives(f"{MANY} URIs, by name", [questions], named(uris), 0, " ".join(sorted(ways)) + "\n")
     for at in (0, MANY // 2, MANY - 1):
         others = [f"{HOST.decode()}none{number}" for number in range(MANY)]
         others[at] = uris[at]
         tests.gives(f"{MANY} URIs, of which one is named", [ask, "reach", *others], octets, 0, reached([places[at]]))
-        tests.gives(f"{MANY} URIs, by name, of which one is named", [cases], named(others), 0, ways[at] + "\n")
+        tests.gives(f"{MANY} URIs, by name, of which one is named", [questions], named(others), 0, ways[at] + "\n")
     locators = [f"{HOST.decode()}none{number}" for number in range(MANY - 1)] + [(HOST + b"ta.cer").decode()]
     tests.gives(f"{MANY} URIs, the last a locator's", [ask, "reach", *locators], octets, 0, "locator\n")
 
@@ -244,16 +244,16 @@ def main():
     parser = argparse.ArgumentParser(description=__doc__, formatter_class=argparse.RawDescriptionHelpFormatter)
     parser.add_argument("check")
     parser.add_argument("ask")
-    parser.add_argument("cases")
+    parser.add_argument("questions")
     parser.add_argument("--huge", action="store_const", dest="sizes", const=(17, 64, 200), default=(17,))
     parser.add_argument("--small", action="store_const", dest="sizes", const=(2,))
     given = parser.parse_args()
-    check, ask, cases = map(os.path.abspath, (given.check, given.ask, given.cases))
+    check, ask, questions = map(os.path.abspath, (given.check, given.ask, given.questions))
     tests = Tests()
     chains(tests, check, ask)
     lattices(tests, check)
     costs(tests, ask)
-    many(tests, ask, cases)
+    many(tests, ask, questions)
     bundles(tests, check, given.sizes)
     print(f"{tests.passed} passed, {tests.failed} failed")
     sys.exit(1 if tests.failed else 0)

@@ -1,12 +1,12 @@
 #!/usr/bin/env python3
 """Asks the readers of certificates and signed objects about values that are cut off, and about 10,000 values in each other.
 
-    octets.py PROGRAM.. [--most N]      (each PROGRAM is crates/NAME/out/NAME of objects_cases or attestations_cases)
+    octets.py PROGRAM [--most N]      (PROGRAM is that of questions)
 
-A row of the tables below names a reader and the questions that ask it; each public `decode` of the crates below the programs has a
-row. Of the stored questions that a reader answers with a value some are taken, of all lengths, and each proper front of their octets
-has to be refused; a locator's has to be where a second reading (`rpki_readers.py`) refuses it. Values in each other are asked of the
-readers as a whole, and where a reader takes any value.
+A row of the table below names a reader by the first words of the questions that ask it; each public `decode` of the libraries of
+certificates and objects has a row. Of the questions of tests/questions that a reader answers with a value some are taken, of all
+lengths, and each proper front of their octets has to be refused; a locator's has to be where a second reading (`rpki_readers.py`)
+refuses it. Values in each other are asked of the readers as a whole, and where a reader takes any value.
 
 Prints a line for each answer that isn't right, and `N passed, M failed`; exits with 1 where one failed.
 """
@@ -17,65 +17,64 @@ import subprocess
 import sys
 
 sys.dont_write_bytecode = True
-sys.path.insert(0, os.path.join(os.path.dirname(os.path.abspath(__file__)), os.pardir, "lib"))
+for part in ("questions", "lib"):
+    sys.path.insert(0, os.path.join(os.path.dirname(os.path.abspath(__file__)), os.pardir, part))
 
 import calls  # noqa: E402
-from outcomes import SLOWER, TOP  # noqa: E402
-from programs import CRATES, libraries  # noqa: E402
+import certificates  # noqa: E402
+import objects  # noqa: E402
+from outcomes import SLOWER  # noqa: E402
+from programs import CRATES, QUESTIONS, libraries  # noqa: E402
 from rpki_readers import Locator, Refused  # noqa: E402
 from rpki_repositories import ALGORITHM, NULL, bits, integer, oid, seq, tlv  # noqa: E402
 
 SECONDS = 900 * SLOWER
 DEPTH = 10_000
 LONGEST = 8000  # digits of a value that is cut off
-LOCATORS = "locator name"
-# Of each program the first words of questions whose last word is a value's octets, and the calls that they ask.
+LOCATORS = "objects locator name"
+# The first words of questions whose last word is a value's octets, and the calls that they ask.
 READERS = {
-    "objects_cases": {
-        "cert read told": "Cert::decode",
-        "cert within taken": "Cert::take_from",
-        "key decode": "PublicKey::decode",
-        "key read": "PublicKey::take_from",
-        "key identifier read": "KeyIdentifier::take_from",
-        "serial read": "Serial::take_from",
-        "signed data": "SignedData::take_from",
-        "signed front": "SignedData::decode",
-        "signed x509": "X.509's signature algorithms: take_from",
-        "signed cms": "CMS's signature algorithms: take_from",
-        "signed digest": "DigestAlgorithm::take_from",
-        "signed digests": "DigestAlgorithm::take_set_from",
-        "name inspect": "Name::take_from",
-        "time read": "Time::take_from",
-        "time validity": "Validity::take_from",
-        "crl read": "Crl::decode",
-        "within fields": "TbsCertList::take_from",
-        "within taken": "Crl::take_from",
-        "entry taken": "CrlEntry::take_from",
-        "listed taken": "RevokedCertificates::take_from",
-        "object strict any": "SignedObject::decode",
-        "object relaxed any": "SignedObject::decode, in BER",
-        "object strict manifest": "Manifest::decode",
-        "object relaxed manifest": "Manifest::decode, in BER",
-        "object strict roa": "Roa::decode",
-        "object relaxed roa": "Roa::decode, in BER",
-        "object strict aspa": "Aspa::decode",
-        "object relaxed aspa": "Aspa::decode, in BER",
-        "manifest read": "ManifestContent::decode",
-        "roa": "RouteOriginAttestation::decode",
-        "aspa": "AsProviderAttestation::decode",
-        "message": "SignedAttrs::take_from",
-        "rsc content": "ResourceSignedChecklist::decode",
-        "rsc object strict": "Rsc::decode",
-        "rsc object relaxed": "Rsc::decode, in BER",
-        LOCATORS: "Tal::read_named",
-    },
-    "attestations_cases": {
-        "read strict": "Rta::decode",
-        "read relaxed": "Rta::decode, in BER",
-        "multi strict": "MultiSignedObject::decode",
-        "multi relaxed": "MultiSignedObject::decode, in BER",
-        "content": "ResourceTaggedAttestation::decode",
-    },
+    "certificates cert read told": "Cert::decode",
+    "certificates cert within taken": "Cert::take_from",
+    "certificates key decode": "PublicKey::decode",
+    "certificates key read": "PublicKey::take_from",
+    "certificates key identifier read": "KeyIdentifier::take_from",
+    "certificates serial read": "Serial::take_from",
+    "certificates signed data": "SignedData::take_from",
+    "certificates signed front": "SignedData::decode",
+    "certificates signed x509": "X.509's signature algorithms: take_from",
+    "certificates signed cms": "CMS's signature algorithms: take_from",
+    "certificates signed digest": "DigestAlgorithm::take_from",
+    "certificates signed digests": "DigestAlgorithm::take_set_from",
+    "certificates name inspect": "Name::take_from",
+    "certificates time read": "Time::take_from",
+    "certificates time validity": "Validity::take_from",
+    "certificates crl read": "Crl::decode",
+    "certificates within fields": "TbsCertList::take_from",
+    "certificates within taken": "Crl::take_from",
+    "certificates entry taken": "CrlEntry::take_from",
+    "certificates listed taken": "RevokedCertificates::take_from",
+    "objects object strict any": "SignedObject::decode",
+    "objects object relaxed any": "SignedObject::decode, in BER",
+    "objects object strict manifest": "Manifest::decode",
+    "objects object relaxed manifest": "Manifest::decode, in BER",
+    "objects object strict roa": "Roa::decode",
+    "objects object relaxed roa": "Roa::decode, in BER",
+    "objects object strict aspa": "Aspa::decode",
+    "objects object relaxed aspa": "Aspa::decode, in BER",
+    "objects manifest read": "ManifestContent::decode",
+    "objects roa": "RouteOriginAttestation::decode",
+    "objects aspa": "AsProviderAttestation::decode",
+    "objects message": "SignedAttrs::take_from",
+    "objects rsc content": "ResourceSignedChecklist::decode",
+    "objects rsc object strict": "Rsc::decode",
+    "objects rsc object relaxed": "Rsc::decode, in BER",
+    LOCATORS: "Tal::read_named",
+    "objects rta read strict": "Rta::decode",
+    "objects rta read relaxed": "Rta::decode, in BER",
+    "objects rta multi strict": "MultiSignedObject::decode",
+    "objects rta multi relaxed": "MultiSignedObject::decode, in BER",
+    "objects rta content": "ResourceTaggedAttestation::decode",
 }
 
 # The kinds of signed objects whose type is `Signed` of a content; their `decode` stands there.
@@ -83,27 +82,20 @@ SIGNED = ("Manifest", "Roa", "Aspa", "Rsc")
 
 
 def without_row():
-    """The public calls `decode` of the crates of certificates and objects below the programs that no row names."""
-    named = {call.partition(",")[0] for rows in READERS.values() for call in rows.values()}
+    """The public calls `decode` of the libraries of certificates and objects that no row names."""
+    named = {call.partition(",")[0] for call in READERS.values()}
     if named >= {f"{kind}::decode" for kind in SIGNED}:
         named.add("Signed::decode")
-    for crate in sorted(set().union(*map(libraries().get, READERS))):
-        if crate.startswith(("certs", "objects")) and "answers" not in libraries()[crate]:
+    for crate in sorted(libraries()[QUESTIONS]):
+        if crate.startswith(("certs", "objects")):
             for path in sorted((CRATES / crate / "src").rglob("*.rt")):
                 for call in calls.calls_of(crate, path, path.read_text(), ()):
                     if call.name == "decode" and f"{call.owner}::decode" not in named:
                         yield f"{crate}: {call.owner}::decode"
 
 
-def stored(name):
-    """The stored questions of a program, as words, with their answers."""
-    folder = os.path.join(TOP, "crates", name)
-    with open(os.path.join(folder, "stdin")) as asked, open(os.path.join(folder, "stdout")) as answered:
-        return [(question[:-1].split("\t"), answer[:-1]) for question, answer in zip(asked, answered, strict=True)]
-
-
 # Readers of what may be missing: no octets at all are lawful there, and so is a value of another tag, which is left unread.
-OPTIONAL = ("listed taken",)
+OPTIONAL = ("certificates listed taken",)
 SEQUENCE = 0x30
 
 
@@ -170,10 +162,10 @@ def is_right(reader, octets, answer):
     return is_read(reader, answer) == (reader == LOCATORS and reads(octets))
 
 
-def fronts(name, most):
-    """Each proper front of some good values of each reader of a program: the reader, the question, what the octets are."""
-    rows = stored(name)
-    for reader in READERS[name]:
+def fronts(most):
+    """Each proper front of some good values of each reader: the reader, the question, what the octets are."""
+    rows = [(question.split("\t"), answer) for member in (certificates, objects) for question, answer in member.questions()]
+    for reader in READERS:
         head = reader.split()
         good = [words for words, answer in rows if words[: len(head)] == head and is_octets(words[-1]) and is_read(reader, answer)]
         good = [words for words in good if len(words[-1]) <= LONGEST and is_whole(reader, bytes.fromhex(words[-1]))]
@@ -196,60 +188,49 @@ def values_within():
     return nested(), nested(0xA0), b"\x30\x80" * DEPTH, b"\x30\x80" * DEPTH + b"\0\0" * DEPTH
 
 
-def deep_attestations():
-    """Questions about attestations that are values in each other."""
-    for octets in values_within():
-        for how in ("strict", "relaxed"):
-            yield ["read", how, octets.hex()], None
-            yield ["multi", how, octets.hex()], None
-        yield ["content", octets.hex()], None
-
-
 def deep():
     """Questions about values in each other: the words, and the right answer, or None where the octets have to be refused."""
     sequences, tagged, endless, ended = values_within()
     rsa = seq(oid("1.2.840.113549.1.1.1"), NULL)
     signature = (ALGORITHM, bits(b""))
     for octets in (sequences, tagged, endless, ended):
-        yield ["cert", "read", "told", octets.hex()], None
-        yield ["cert", "read", "told", seq(octets, *signature).hex()], None
-        yield ["cert", "read", "told", seq(seq(tlv(0xA0, integer(2)), integer(1), ALGORITHM, octets), *signature).hex()], None
-        yield ["key", "decode", octets.hex()], None
-        yield ["key", "decode", seq(octets, bits(b"")).hex()], None
-        yield ["key", "decode", seq(seq(oid("1.2.840.113549.1.1.1"), octets), bits(b"")).hex()], None
-        yield ["key", "decode", seq(rsa, octets).hex()], None
+        yield ["certificates", "cert", "read", "told", octets.hex()], None
+        yield ["certificates", "cert", "read", "told", seq(octets, *signature).hex()], None
+        yield ["certificates", "cert", "read", "told", seq(seq(tlv(0xA0, integer(2)), integer(1), ALGORITHM, octets), *signature).hex()], None
+        yield ["certificates", "key", "decode", octets.hex()], None
+        yield ["certificates", "key", "decode", seq(octets, bits(b"")).hex()], None
+        yield ["certificates", "key", "decode", seq(seq(oid("1.2.840.113549.1.1.1"), octets), bits(b"")).hex()], None
+        yield ["certificates", "key", "decode", seq(rsa, octets).hex()], None
         for whole in (octets, seq(octets, octets, bits(b"")), seq(NULL, seq(oid("1.2.840.113549.1.1.11"), octets), bits(b""))):
-            yield ["signed", "front", "der", whole.hex()], None
+            yield ["certificates", "signed", "front", "der", whole.hex()], None
         for mode in ("ber", "cer", "der"):
-            yield ["key", "read", mode, octets.hex()], None
-            yield ["signed", "data", mode, octets.hex()], None
-            yield ["signed", "data", mode, seq(octets, octets, bits(b"")).hex()], None
-            yield ["signed", "data", mode, seq(NULL, seq(oid("1.2.840.113549.1.1.11"), octets), bits(b"")).hex()], None
-        yield ["crl", "read", octets.hex()], None
-        yield ["crl", "read", seq(octets, *signature).hex()], None
-        for reader in ("manifest read", "roa", "aspa", "rsc content", "rsc object strict", "rsc object relaxed"):
-            yield [*reader.split(), octets.hex()], None
+            yield ["certificates", "key", "read", mode, octets.hex()], None
+            yield ["certificates", "signed", "data", mode, octets.hex()], None
+            yield ["certificates", "signed", "data", mode, seq(octets, octets, bits(b"")).hex()], None
+            yield ["certificates", "signed", "data", mode, seq(NULL, seq(oid("1.2.840.113549.1.1.11"), octets), bits(b"")).hex()], None
+        yield ["certificates", "crl", "read", octets.hex()], None
+        yield ["certificates", "crl", "read", seq(octets, *signature).hex()], None
+        for reader in ("manifest read", "roa", "aspa", "rsc content", "rsc object strict", "rsc object relaxed", "rta content"):
+            yield ["objects", *reader.split(), octets.hex()], None
         for how in ("strict", "relaxed"):
             for kind in ("any", "manifest", "roa", "aspa"):
-                yield ["object", how, kind, octets.hex()], None
+                yield ["objects", "object", how, kind, octets.hex()], None
+            yield ["objects", "rta", "read", how, octets.hex()], None
+            yield ["objects", "rta", "multi", how, octets.hex()], None
     # What is signed may be any value.
     for octets in (sequences, tagged):
         for mode in ("ber", "der"):
             whole = seq(octets, *signature).hex()
-            yield ["signed", "data", mode, whole], f"{octets.hex()} true 0  {whole}"
-        yield ["signed", "front", "der", whole], f"{octets.hex()} true 0  {whole}"
+            yield ["certificates", "signed", "data", mode, whole], f"{octets.hex()} true 0  {whole}"
+        yield ["certificates", "signed", "front", "der", whole], f"{octets.hex()} true 0  {whole}"
     whole = seq(ended, *signature).hex()
-    yield ["signed", "data", "ber", whole], f"{ended.hex()} true 0  {whole}"
-    yield ["signed", "data", "der", whole], None
-
-
-DEEP = {"objects_cases": deep, "attestations_cases": deep_attestations}
+    yield ["certificates", "signed", "data", "ber", whole], f"{ended.hex()} true 0  {whole}"
+    yield ["certificates", "signed", "data", "der", whole], None
 
 
 def tried(program, most):
-    """How many fronts and other questions a program is asked, and what is wrong about its answers."""
-    name = os.path.basename(program)
-    cut, values = list(fronts(name, most)), list(DEEP[name]())
+    """How many fronts and other questions the program is asked, and what is wrong about its answers."""
+    cut, values = list(fronts(most)), list(deep())
     lines = "".join("\t".join(words) + "\n" for words in [*(words for _, words, _ in cut), *(words for words, _ in values)])
     done = subprocess.run([os.path.abspath(program)], input=lines, capture_output=True, text=True, timeout=SECONDS)
     said, wrong = done.stdout.splitlines(), []
@@ -266,14 +247,12 @@ def tried(program, most):
 
 def main():
     parser = argparse.ArgumentParser(description=__doc__, formatter_class=argparse.RawDescriptionHelpFormatter)
-    parser.add_argument("programs", nargs="+", metavar="PROGRAM")
+    parser.add_argument("program", metavar="PROGRAM")
     parser.add_argument("--most", type=int, default=3, help="how many values of each reader are cut off")
     given = parser.parse_args()
     wrong = [f"{call} has no row in tests/outside/octets.py" for call in without_row()]
-    cut = values = 0
-    for program in given.programs:
-        counts = tried(program, given.most)
-        cut, values, wrong = cut + counts[0], values + counts[1], wrong + counts[2]
+    cut, values, more = tried(given.program, given.most)
+    wrong += more
     print("\n".join(wrong[:50]))
     print(f"{cut} fronts, {values} questions about {DEPTH} values in each other")
     print(f"{cut + values - len(wrong)} passed, {len(wrong)} failed")

@@ -1,10 +1,8 @@
 #!/usr/bin/env python3
-"""Whether what is stored of questions and answers is what a script of tests/questions writes.
+"""Whether what is stored of questions and answers is what scripts of tests/questions write: of the examples, and of tests/cases.
 
-    written.py SCRIPT NAME..      (SCRIPT is a file of tests/questions, each NAME a crate or `cases`, which it writes)
-
-The script runs in a copy of tests/ and of what it writes, and the copy is compared with the repository. Prints `N passed, M failed`,
-a file being one test.
+The scripts run in a copy of what they stand on, and each file that they write is compared with the stored one. Prints
+`N passed, M failed`, a file being one test.
 """
 
 import filecmp
@@ -15,40 +13,35 @@ import sys
 import tempfile
 
 TOP = pathlib.Path(__file__).resolve().parents[2]
-STORED = ("stdin", "stdout", "data")
+PARTS = ("tests/questions", "tests/lib", "bench", "crates/rpki_rules/src", "crates/certs_extension/src", "crates/objects_payload/src")
+# Each command with the folders that it writes into.
+COMMANDS = {
+    ("examples.py",): tuple(f"crates/{path.parent.name}" for path in sorted(TOP.glob("crates/example_*/stdout"))),
+    ("validator.py", "--cases"): ("tests/cases",),
+}
 
 
-def lay(room, names):
-    """Copies what the script stands on and what it writes; the folders that it writes."""
-    for part in ("tests/questions", "tests/lib", "bench", "crates/rpki_rules/src", "crates/certs_extension/src", "crates/objects_payload/src"):
+def written(room):
+    """The paths of all files that the commands write in the room."""
+    for part in PARTS:
         shutil.copytree(TOP / part, room / part, ignore=shutil.ignore_patterns("__pycache__"))
-    for name in names:
-        folder = "tests/cases" if name == "cases" else f"crates/{name}"
-        (room / folder).mkdir(parents=True)
-        for path in (TOP / folder).iterdir():
-            if name == "cases" or path.name in STORED:
-                (shutil.copytree if path.is_dir() else shutil.copy)(path, room / folder / path.name)
-        yield folder
-
-
-def files(folder):
-    return {path.relative_to(folder) for path in folder.rglob("*") if path.is_file()}
+    for (script, *words), folders in COMMANDS.items():
+        for folder in folders:
+            (room / folder).mkdir(parents=True)
+        subprocess.run([sys.executable, "-B", room / "tests" / "questions" / script, *words], check=True)
+        for folder in folders:
+            found = [path.relative_to(room) for path in sorted((room / folder).iterdir())]
+            yield from found or [pathlib.Path(folder, "nothing")]
 
 
 def main():
-    if len(sys.argv) < 3:
-        sys.exit("usage: written.py SCRIPT NAME..")
-    script, names = sys.argv[1], sys.argv[2:]
     with tempfile.TemporaryDirectory() as there:
         room = pathlib.Path(there)
-        folders = list(lay(room, names))
-        before = {folder: files(room / folder) for folder in folders}
-        subprocess.run([sys.executable, "-B", room / "tests" / "questions" / script], check=True)
-        paths = [f"{folder}/{path}" for folder in folders for path in sorted(before[folder] | files(room / folder))]
+        paths = list(written(room))
         is_same = lambda path: (TOP / path).is_file() and (room / path).is_file() and filecmp.cmp(TOP / path, room / path, shallow=False)
         others = [path for path in paths if not is_same(path)]
     for path in others:
-        print(f"{path} isn't what tests/questions/{script} writes")
+        print(f"{path} isn't what a script writes")
     print(f"{len(paths) - len(others)} passed, {len(others)} failed")
     sys.exit(1 if others else 0)
 

@@ -2,7 +2,7 @@
 """Writes the questions and answers of the examples that are programs: `stdin` and `stdout` of `crates/example_codec`,
 `example_resources`, `example_certificate`, `example_checklist` and `example_validator`. Tallies are written by an encoder of
 its own; what isn't held, what a certificate has, what becomes of a checklist, and what a bundle means was thought out by hand.
-Certificates, objects and bundles are made by rpki_repositories.py, checklists by objects_rsc_cases.py."""
+Certificates, objects and bundles are made by rpki_repositories.py, checklists by objects_rsc.py."""
 
 import hashlib
 import pathlib
@@ -11,7 +11,7 @@ import sys
 sys.dont_write_bytecode = True
 sys.path.insert(0, str(pathlib.Path(__file__).resolve().parents[1] / "lib"))
 
-import objects_rsc_cases as rsc  # noqa: E402
+import objects_rsc as rsc  # noqa: E402
 import rpki_repositories as world  # noqa: E402
 
 CRATES = pathlib.Path(__file__).resolve().parents[2] / "crates"

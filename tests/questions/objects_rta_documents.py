@@ -1,20 +1,15 @@
 """Resource tagged attestations that are made of certificates, revocation lists and signers, for
-tests/questions/objects_rta_valid_cases.py: each of which some parts are others.
+tests/questions/objects_rta_valid.py: each of which some parts are others.
 
 The signer is that of tests/lib/rpki_repositories.py: the SHA-256 digest of a key's bits and the message.
 """
 
 import hashlib
-import pathlib
-import sys
 
-sys.dont_write_bytecode = True
-sys.path.insert(0, str(pathlib.Path(__file__).resolve().parents[1] / "lib"))
-
-import rpki_repositories as world  # noqa: E402
-from objects_rsc_cases import blocks, family  # noqa: E402
-from objects_rta_cases import as_part, attestation, ip_part, key_of, made, signer  # noqa: E402
-from rpki_repositories import ALGORITHM, FIRST, HOST, LAST, bits, encoded, integer, key_bits, oid, seq, time, tlv  # noqa: E402
+import rpki_repositories as world
+from objects_rsc import blocks, family
+from objects_rta_read import as_part, attestation, ip_part, key_of, made, signer
+from rpki_repositories import ALGORITHM, FIRST, HOST, LAST, bits, encoded, integer, key_bits, oid, seq, time, tlv
 
 MAKER = world.World()
 EARLY, LATE = b"20231231235959Z", b"20260101000001Z"

@@ -1,21 +1,17 @@
-"""Documents that are made from good ones by one change each, for tests/questions/objects_rta_valid_cases.py: what each lacks, by words
+"""Documents that are made from good ones by one change each, for tests/questions/objects_rta_valid.py: what each lacks, by words
 of tests/lib/rpki_validation.py, is known by hand. Some lack nothing.
 """
 
 import hashlib
-import pathlib
-import sys
 
-sys.dont_write_bytecode = True
-sys.path.insert(0, str(pathlib.Path(__file__).resolve().parents[1] / "lib"))
+import rpki_repositories as world
+from objects_rta_read import attribute
+from objects_rta_documents import ALONE, ANCHOR, APART, BOTH, CA, EARLY, EMPTY_ALGORITHM, HIGH, ITSELF, LATE, LOW, MAKER, ONE
+from objects_rta_documents import OTHER_CA, SHORT, SOMEBODY, TREE, TWO, WIDE, Base, anchor, authority, certificate, chain, folder_of
+from objects_rta_documents import holder, revocations, ring
+from rpki_readers import KINDS
+from rpki_repositories import FIRST, HOST, LAST, MOMENT, bits, encoded, integer, key_bits, oid, seq, time, tlv
 
-import rpki_repositories as world  # noqa: E402
-from objects_rta_cases import attribute  # noqa: E402
-from objects_rta_documents import ALONE, ANCHOR, APART, BOTH, CA, EARLY, EMPTY_ALGORITHM, HIGH, ITSELF, LATE, LOW, MAKER, ONE  # noqa: E402
-from objects_rta_documents import OTHER_CA, SHORT, SOMEBODY, TREE, TWO, WIDE, Base, anchor, authority, certificate, chain, folder_of  # noqa: E402
-from objects_rta_documents import holder, revocations, ring  # noqa: E402
-from rpki_readers import KINDS  # noqa: E402
-from rpki_repositories import FIRST, HOST, LAST, MOMENT, bits, encoded, integer, key_bits, oid, seq, time, tlv  # noqa: E402
 
 def of_keys():
     """Subject keys and signers."""

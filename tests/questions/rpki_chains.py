@@ -270,14 +270,13 @@ class Walked:
             self.origins.add((kind, value, length, longest or length, thing.number))
 
     def lines(self):
-        """The lines, in their order, those of witnesses and a dot."""
+        """The lines, in their order, and those of witnesses."""
         for kind, value, length, longest, asn in sorted(self.origins):
             yield f"roa AS{FIRST_AS + asn} {address(kind, value)}/{length} {longest}"
         for customer, providers in sorted(self.customers.items()):
             yield f"aspa AS{FIRST_AS + customer}" + "".join(f" AS{FIRST_AS + n}" for n in sorted(providers))
         yield from (f"refused {uri} {why}" for uri, why in sorted(self.refused))
         yield from (f"witness {uri} {name} {' '.join(chain)}" for uri, name, chain in sorted(self.witnesses))
-        yield "."
 
 
 def judged(world, name, uri, chain):

@@ -155,16 +155,16 @@ WORLDS = {
     "judge-and-reach": (
         single(),
         {
-            f"judge t {M}/ta/a.roa {TA}": ["yes 1"],
-            f"judge u {M}/ta/a.roa {TA}": ["no 1"],
-            f"judge t {M}/ta/a.roa {TA} {TA}": ["no 0"],
-            f"reach {M}/ta/a.roa": [set_of("192.0.2.0/24")],
-            f"reach {TA}": ["locator"],
+            f"judge t {M}/ta/a.roa {TA}": "yes 1",
+            f"judge u {M}/ta/a.roa {TA}": "no 1",
+            f"judge t {M}/ta/a.roa {TA} {TA}": "no 0",
+            f"reach {M}/ta/a.roa": set_of("192.0.2.0/24"),
+            f"reach {TA}": "locator",
         },
     ),
     "manifest-overclaim": (
         single("AS64500 inherit inherit"),
-        {"walk": [f"refused {TA} point"], f"judge t {M}/ta/a.roa {TA}": ["no 1"]},
+        {"walk": [f"refused {TA} point"], f"judge t {M}/ta/a.roa {TA}": "no 1"},
     ),
     "two-aspas": (
         anchor_lines("AS0-AS4294967295 none none", f"{M}/ta/a.asa {M}/ta/b.asa")
@@ -176,19 +176,19 @@ WORLDS = {
         parents(),
         {
             "walk": ["roa AS64496 10.200.0.0/16 16", f"refused {M}/c/c.roa object"],
-            f"judge t {M}/c/c.roa {TA} {M}/ta/b.cer {M}/b/c.cer": ["yes 3"],
-            f"judge t {M}/c/c.roa {TA} {M}/ta/a.cer {M}/a/c.cer": ["no 2"],
-            f"reach {M}/c/c.roa": [set_of("10.0.0.0/8")],
-            f"reach {M}/none": [set_of()],
-            "reach x": [set_of()],
-            "reach": [set_of()],
+            f"judge t {M}/c/c.roa {TA} {M}/ta/b.cer {M}/b/c.cer": "yes 3",
+            f"judge t {M}/c/c.roa {TA} {M}/ta/a.cer {M}/a/c.cer": "no 2",
+            f"reach {M}/c/c.roa": set_of("10.0.0.0/8"),
+            f"reach {M}/none": set_of(),
+            "reach x": set_of(),
+            "reach": set_of(),
         },
     ),
     "laws: cut down": (
         [line for line in parents() if not line.startswith((f"point {M}/a/", f"cer {M}/a/"))],
         {
             "walk": ["roa AS64496 10.200.0.0/16 16", f"refused {M}/ta/a.cer point"],
-            f"judge t {M}/c/c.roa {TA} {M}/ta/b.cer {M}/b/c.cer": ["yes 3"],
+            f"judge t {M}/c/c.roa {TA} {M}/ta/b.cer {M}/b/c.cer": "yes 3",
         },
     ),
     "laws: without the verdict of an anchor": (
@@ -211,19 +211,19 @@ WORLDS = {
         trimmed("trim", f"none {BOTH} none"),
         {
             "walk": ["roa AS64496 10.1.0.0/16 16", f"refused {M}/ca/y.roa object"],
-            f"judge t {M}/ca/x.roa {TA} {M}/ta/ca.cer": ["yes 2"],
-            f"judge t {M}/ca/y.roa {TA} {M}/ta/ca.cer": ["no 2"],
-            f"reach {M}/ca/x.roa": [set_of("10.0.0.0/8")],
-            f"reach {M}/ta/ca.cer": [set_of("10.0.0.0/8")],
+            f"judge t {M}/ca/x.roa {TA} {M}/ta/ca.cer": "yes 2",
+            f"judge t {M}/ca/y.roa {TA} {M}/ta/ca.cer": "no 2",
+            f"reach {M}/ca/x.roa": set_of("10.0.0.0/8"),
+            f"reach {M}/ta/ca.cer": set_of("10.0.0.0/8"),
         },
     ),
     "trimmed-ca: refuse": (
         trimmed("refuse", f"none {BOTH} none"),
-        {"walk": [f"refused {M}/ta/ca.cer object"], f"judge t {M}/ca/x.roa {TA} {M}/ta/ca.cer": ["no 2"]},
+        {"walk": [f"refused {M}/ta/ca.cer object"], f"judge t {M}/ca/x.roa {TA} {M}/ta/ca.cer": "no 2"},
     ),
     "judge-trim": (
         trimmed("refuse", "AS64500 10.0.0.0/8 none"),
-        {"walk": [f"refused {M}/ta/ca.cer object"], f"judge t {M}/ca/x.roa {TA} {M}/ta/ca.cer": ["no 2"]},
+        {"walk": [f"refused {M}/ta/ca.cer object"], f"judge t {M}/ca/x.roa {TA} {M}/ta/ca.cer": "no 2"},
     ),
     "depth-one: depth": (trimmed("trim", f"none {BOTH} none", 1), {"walk": [f"refused {M}/ta/ca.cer depth"]}),
     "depth-one: loop": (loop(2, "a.cer", "a"), {"walk": [f"refused {M}/b/a.cer loop"]}),
@@ -233,7 +233,7 @@ WORLDS = {
         second(),
         {
             "walk": [LINE, f"refused {U}/ta/b.cer point"],
-            f"reach {U}/ta/ta.mft {U}/ta/b.cer": [set_of("198.51.100.0/24")],
+            f"reach {U}/ta/ta.mft {U}/ta/b.cer": set_of("198.51.100.0/24"),
         },
     ),
     "second-locator: its point taken out": (
@@ -261,6 +261,6 @@ WORLDS = {
         [line.replace(TA, f"{TA} https://r.example/ta.cer") if line.startswith("loc") else line for line in single()],
         {"walk": [LINE]},
     ),
-    "empty-locator": (["world 32", "locator x"], {"walk": ["refused x tal"], "reach x": [set_of()]}),
+    "empty-locator": (["world 32", "locator x"], {"walk": ["refused x tal"], "reach x": set_of()}),
     "locator-order": (["world 32", "locator a", "locator b"], {"walk": ["refused a tal", "refused b tal"]}),
 }

@@ -1,11 +1,11 @@
 #!/usr/bin/env python3
-"""Questions about publication points, validated objects and written contents, for tests/questions/bundles_cases.py.
+"""Questions about publication points, validated objects and written contents, for tests/questions/validator.py.
 
-    rpki_places.py IN OUT   writes all of them into two files; bundles_cases.py asks some hundred of each topic, chosen so
-                            that each branch has one
+    rpki_places.py PROGRAM   asks all of them; validator.py asks some hundred of each topic, chosen so that each branch
+                             has one
 
 What stands at publication points comes of a second reading of the rules (rpki_points.py), what is said of validated objects of
-the defects that they are made with (objects_valid_cases.py), and what is written of contents of the writers below.
+the defects that they are made with (validator_objects.py), and what is written of contents of the writers below.
 """
 
 import hashlib
@@ -15,11 +15,12 @@ import sys
 sys.dont_write_bytecode = True
 sys.path.insert(0, str(pathlib.Path(__file__).resolve().parents[1] / "lib"))
 
-import objects_valid_cases  # noqa: E402
+import asking  # noqa: E402
 import rpki_points  # noqa: E402
 import rpki_repositories as world  # noqa: E402
-from rpki_asked import Rows  # noqa: E402
+import validator_objects  # noqa: E402
 from rpki_repositories import bits, integer, oid, tlv  # noqa: E402
+from validator_asked import Questions  # noqa: E402
 
 NUMBER = 2**32 - 1
 
@@ -108,16 +109,17 @@ def files(ask):
 def questions(q, whole=False):
     """Asks some hundred of each topic, or all."""
     rpki_points.points(q.ask, *((2000, None) if whole else ()))
-    objects_valid_cases.objects(q.ask, whole)
+    validator_objects.objects(q.ask, whole)
     contents(q.ask)
     files(q.ask)
 
 
-def main():
-    q = Rows()
+def all_questions():
+    """All questions beside their answers."""
+    q = Questions()
     questions(q, True)
-    q.write(*map(pathlib.Path, sys.argv[1:3]))
+    return q.rows
 
 
 if __name__ == "__main__":
-    main()
+    asking.main(all_questions)

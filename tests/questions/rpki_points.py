@@ -1,4 +1,4 @@
-"""Questions about publication points, for tests/questions/bundles_cases.py: what stands at the point of each accepted chain of a world.
+"""Questions about publication points, for tests/questions/rpki_places.py: what stands at the point of each accepted chain of a world.
 
 The answers are tests/lib/rpki_model.py's. A question names the chain by its URIs, the anchor's first. Of the worked cases and
 of worlds by chance the shortest few are asked whose point stands, by how much is listed there, and the shortest few that the

@@ -1,8 +1,8 @@
-"""Questions to the program of questions, as rows of crates/rpki_cases: why something is attested or refused, all that is refused,
+"""Questions to what `rpki_ask` is made of, for tests/questions/validator.py: why something is attested or refused, all that is refused,
 what a judge says, what is reached, what a walk costs, and wrong words.
 
-`tests/questions/rpki_cases.py` calls `questions`; what is right is stated here or comes of tests/lib/rpki_model.py and, of what
-is refused, of tests/lib/rpki_reasons.py. Each reason that can come is shown twice at least.
+What is right is stated here or comes of tests/lib/rpki_model.py and, of what is refused, of tests/lib/rpki_reasons.py. Each reason that
+can come is shown twice at least.
 """
 
 import collections

@@ -1,12 +1,12 @@
 #!/usr/bin/env python3
-"""Worlds that crates/rpki_cases is asked about, for tests/questions/rpki_cases.py; or asks the built program about others by chance.
+"""Questions about worlds, for tests/questions/validator.py; or asks the program about others by chance.
 
     rpki_worlds.py PROGRAM [COUNT [SEED]]
 
 So many worlds are made by that seed, and it exits with 1 where the program answers otherwise.
 
-Worlds are lists of locators and things (tests/questions/rpki_chains.py), made by hand (tests/questions/rpki_hand_worlds.py) and by chance; their
-octets are tests/lib/rpki_repositories.py's. What is answered of a world by chance comes of trying every list of its certificates as
+Worlds are lists of locators and things (rpki_chains.py), made by hand (rpki_hand_worlds.py) and by chance; their octets are
+tests/lib/rpki_repositories.py's. A world is told line by line, and each line that gives something is answered by an empty one. What is answered of a world by chance comes of trying every list of its certificates as
 a chain, and is stated for one made by hand. Each walk is compared with tests/lib/rpki_model.py's, a second reading of the rules that
 reads the octets.
 
@@ -18,15 +18,14 @@ the witness stays good. What is judged is good exactly where the walk has it amo
 
 import argparse
 import hashlib
-import itertools
 import pathlib
 import random
-import subprocess
 import sys
 
 sys.dont_write_bytecode = True
 sys.path.insert(0, str(pathlib.Path(__file__).resolve().parents[1] / "lib"))
 
+import asking  # noqa: E402
 import rpki_chains  # noqa: E402
 import rpki_model  # noqa: E402
 from rpki_bundles import bundle  # noqa: E402
@@ -34,8 +33,9 @@ from rpki_chains import FIRST_AS, KINDS, UNITS, Locator, Thing, Walked, World, a
 from rpki_hand_worlds import WORLDS, world_said  # noqa: E402
 from rpki_repositories import ASPA, FIRST, LAST, MANIFEST, ROA, Authority, World as Signer  # noqa: E402
 from rpki_repositories import aspa, basic, claims_of, locator_text, manifest, policies, roa, usage  # noqa: E402
+from validator_asked import Questions  # noqa: E402
 
-COUNT = 40
+COUNT = 48
 WRONG_KEY = 999
 NO_LOCATOR = b"no locator"
 
@@ -161,10 +161,10 @@ def prefix_text(prefix):
 
 
 class Asked:
-    """The lines of worlds and questions, and those of the answers."""
+    """Worlds as they are told, and what is asked of them."""
 
-    def __init__(self):
-        self.lines, self.answers, self.count = [], [], 0
+    def __init__(self, q):
+        self.q = q
 
     def world(self, world, chance=None):
         """Tells a world, in an order by chance if one is given."""
@@ -179,8 +179,8 @@ class Asked:
             self.tell(*part)
 
     def tell(self, *words):
-        """A line about the world: what is there, or a question."""
-        self.lines.append("\t".join(["world", *words]))
+        """Gives something of the world."""
+        self.ask("", *words)
 
     def verdicts(self):
         """The words of each good signature that wasn't told."""
@@ -203,10 +203,9 @@ class Asked:
         del world.at[uri]
         self.tell("without", uri)
 
-    def ask(self, words, *answer):
-        self.tell(*words)
-        self.answers += answer
-        self.count += 1
+    def ask(self, answer, *words):
+        """Asks of the world."""
+        self.q.ask(answer, "world", *words)
 
     def read(self, world):
         """What the second reading finds in the octets of a world."""
@@ -223,20 +222,20 @@ class Asked:
             for file, name, chain in sorted((file, name, chain) for name, chain, file in found.witnesses)
         ]
         walked = Walked(world) if stated is None else None
-        lines = [*stated, *witnesses, "."] if stated is not None else list(walked.lines())
-        assert lines == [*rpki_model.lines(found), *witnesses, "."]
-        self.ask(["walk"], *lines)
+        lines = [*stated, *witnesses] if stated is not None else list(walked.lines())
+        assert lines == [*rpki_model.lines(found), *witnesses]
+        self.ask("".join(f"{line}|" for line in lines), "walk")
         return walked
 
     def judge(self, world, name, uri, chain, answer):
         """Asks the judge; the second reading has to count as many points."""
         count = self.read(world).points_read([one.encode() for one in chain], uri.encode())
         assert answer.split()[1:] == [str(count)], (name, uri, chain, answer, count)
-        self.ask(["judge", name, ",".join(chain), uri], answer)
+        self.ask(answer, "judge", name, ",".join(chain), uri)
 
     def reach(self, world, uris):
         held = reached(world, uris)
-        self.ask(["reach", ",".join(uris)], reach_text(held))
+        self.ask(reach_text(held), "reach", ",".join(uris))
         return held
 
 
@@ -539,49 +538,37 @@ def ask_by_chance(asked, count, seed):
 
 
 def ask_by_hand(asked):
-    for lines, questions in WORLDS.values():
+    for lines, questions_of in WORLDS.values():
         world = world_said(lines)
         asked.world(world)
-        for question, answer in questions.items():
+        for question, answer in questions_of.items():
             what, *words = question.split()
             if what == "walk":
                 asked.walk(world, answer)
             elif what == "judge":
-                asked.judge(world, words[0], words[1], words[2:], *answer)
+                asked.judge(world, words[0], words[1], words[2:], answer)
             else:
-                asked.ask([what, ",".join(words)], *answer)
+                asked.ask(answer, what, ",".join(words))
 
 
-def asked_at_the_gate():
-    """The lines that the gate asks, and those of the answers."""
-    asked = Asked()
+def questions(q):
+    """Asks about all worlds by hand, and some by chance."""
+    asked = Asked(q)
     ask_by_hand(asked)
-    by_hand = asked.count
     ask_by_chance(asked, COUNT, 9286)
-    print(f"{asked.count} questions about worlds, {by_hand} of them about worlds made by hand")
-    return asked
-
-
-def compare(program, count, seed):
-    """Asks the program; how many lines of its answers are others."""
-    asked = Asked()
-    ask_by_chance(asked, count, seed)
-    lines = "".join(f"{line}\n" for line in asked.lines)
-    said = subprocess.run([program], input=lines, stdout=subprocess.PIPE, text=True).stdout.splitlines()
-    others = [pair for pair in itertools.zip_longest(asked.answers, said) if pair[0] != pair[1]]
-    for wanted, found in others[:10]:
-        print(f"{found!r} in place of {wanted!r}")
-    print(f"{asked.count} questions, {len(others)} lines differ")
-    return len(others)
 
 
 def main():
     parser = argparse.ArgumentParser(description="Worlds of certificates, their questions and answers.")
-    parser.add_argument("program", help="crates/rpki_cases/out/rpki_cases")
+    parser.add_argument("program", help="the program of tests/program")
     parser.add_argument("count", nargs="?", type=int, default=200)
     parser.add_argument("seed", nargs="?", type=int, default=1)
     given = parser.parse_args()
-    sys.exit(1 if compare(given.program, given.count, given.seed) else 0)
+    q = Questions()
+    ask_by_chance(Asked(q), given.count, given.seed)
+    passed, failed = asking.compare(pathlib.Path(given.program).resolve(), q.rows)
+    print(f"{passed} passed, {failed} failed")
+    sys.exit(1 if failed else 0)
 
 
 if __name__ == "__main__":

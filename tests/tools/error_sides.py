@@ -34,8 +34,8 @@ from terms import parse
 REASONS = pathlib.Path(__file__).with_suffix(".tsv")
 # The words with which a reason begins.
 WORDS = ("handed in", "told otherwise", "tested", "open")
-# Programs of questions, examples, and what they share.
-OTHERS = re.compile(r"\w+_cases|\w+_calls|certs_roles|answers|example_\w+|\w+_example|rpki_ask|rpki_check")
+# Examples and programs.
+OTHERS = re.compile(r"example_\w+|\w+_example|rpki_ask|rpki_check")
 
 
 OF_ERROR, OF_LEFT = Any(frozenset({"error"})), Any(frozenset({"left"}))

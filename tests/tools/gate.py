@@ -2,12 +2,13 @@
 """Runs the gate and writes docs/GATE.md: what each crate costs in processor seconds. Sections behind the table are kept,
 and the figures that stood there go to the end of bench/HISTORY-gate.md.
 
-    gate.py [--log FILE]
+    gate.py [--log FILE] [--first NAME ..]
 
 Runs .ci/run at the top of the repository, with its output in FILE (gate.log in a temporary folder without one), and
 looks twice a second at the tools that run: for which crate, whether for its proof, its tests, its wrong bodies or what
 compiles and links it once it is proved, and how much processor time each has taken. What one takes in its last half second
-is missed. Exits with the gate's status.
+is missed. With --first the crates of these names, and those below them, are proved by a run of their own before it (`rt ci
+NAME ..`), whose time is added: so whoever still works on crates above them can begin. Exits with the gate's status.
 """
 
 import argparse
@@ -28,6 +29,8 @@ HISTORY = os.path.join(ROOT, "bench", "HISTORY-gate.md")
 TICKS = os.sysconf("SC_CLK_TCK")
 # The toolchain's folder, in which its checker, both compilers and the linker stand.
 KIT = os.path.dirname(os.path.dirname(os.path.realpath(shutil.which("rt") or "/opt/rattle/bin/rt"))) + os.sep
+# How the folders begin in which `rt ci NAME` works.
+COPY = os.sep + "rt-copy-"
 KINDS = {"proof": "Proof", "built": "Compilers", "tests": "Tests", "edits": "Wrong bodies"}
 sys.dont_write_bytecode = True
 sys.path.insert(0, os.path.join(ROOT, "bench"))
@@ -48,8 +51,8 @@ def crate_of(words, where):
     """The crate that a tool runs for, by its words or by the folder that it runs in; none for any other folder."""
     if "--crate-name" in words:
         return words[words.index("--crate-name") + 1]
-    inside = os.path.relpath(where, os.path.join(ROOT, "crates"))
-    return None if inside.startswith(os.pardir) else inside.split(os.sep)[0]
+    inside = re.search(r"/crates/([^/]+)", where)
+    return inside[1] if inside else None
 
 
 def tools():
@@ -68,14 +71,15 @@ def tools():
         except OSError:
             continue
         kind, crate = kind_of(words, where), crate_of(words, where)
-        if crate and (kind == "edits" or where.startswith(ROOT + os.sep)):
+        # (a run of some crates works in a copy)
+        if crate and (kind == "edits" or where.startswith(ROOT + os.sep) or COPY in where):
             yield (name, fields[19]), crate, kind, (int(fields[11]) + int(fields[12])) / TICKS
 
 
 def watched(command, log):
     """Runs the command; its status, how long it took, and the processor seconds of each crate and kind."""
     taken, began = {}, time.monotonic()
-    with open(log, "w") as out:
+    with open(log, "a") as out:
         run = subprocess.Popen(command, cwd=ROOT, stdout=out, stderr=subprocess.STDOUT, stdin=subprocess.DEVNULL)
         while run.poll() is None:
             for process, crate, kind, seconds in tools():
@@ -136,7 +140,7 @@ def minutes_on(processors, needs, sums):
     return now / 60
 
 
-def page(status, wall, sums, log):
+def page(status, walls, sums, log):
     needs = copies.stands_on()
     with open(log) as file:
         lines = file.read().rstrip("\n").split("\n")
@@ -146,17 +150,19 @@ def page(status, wall, sums, log):
     shown = [kind for kind in KINDS if total[kind]]
     seconds, names = longest_chain(needs, sums)
     edits = collections.Counter(re.findall(r"^rt: must-fail (\w+)/", "\n".join(lines), re.MULTILINE))
+    wall = sum(walls) / 60
+    apart = f" (two runs, one after the other: {' and '.join(f'{one / 60:.0f}' for one in walls)})" if len(walls) > 1 else ""
     rows = [
         "# The gate",
         "",
         "`.ci/run` is the gate: `rt ci` at the top of the repository. "
         "It proves every function of every crate from nothing, tries each wrong body in `crates/*/must-fail`, which the "
-        "prover has to refuse, and runs each program as two compilers build it. Then, over the programs that it built, come the "
-        "tests of `tests/run quick`, some minutes; they get what is left of 175 minutes, and 15 at most. `tests/tools/gate.py` "
-        "runs the gate and writes this page.",
+        "prover has to refuse, and runs each program as two compilers build it. Then come the tests of `tests/run quick`, over the "
+        "programs that it built and one of questions that has no proof; they get what is left of 175 minutes, and 15 at most. "
+        "`tests/tools/gate.py` runs the gate and writes this page.",
         "",
         f"{datetime.date.today()}, commit {commit.strip()}, {version}, {len(os.sched_getaffinity(0))} processors: "
-        f"**{wall / 60:.0f} minutes**, {sum(total.values()):,.0f} processor seconds in all, status {status}, "
+        f"**{wall:.0f} minutes**{apart}, {sum(total.values()):,.0f} processor seconds in all, status {status}, "
         f"last line `{lines[-1]}`.",
         "",
         ", ".join(f"{KINDS[kind]} {total[kind]:,.0f}" for kind in shown) + ". "
@@ -203,14 +209,20 @@ def sections():
 def main():
     parser = argparse.ArgumentParser(description="Runs the gate and writes docs/GATE.md.")
     parser.add_argument("--log", help="the file for what the gate prints")
+    parser.add_argument("--first", nargs="+", default=[], metavar="NAME", help="prove these crates and those below them by a run before")
     given = parser.parse_args()
     log = os.path.abspath(given.log) if given.log else os.path.join(tempfile.mkdtemp(), "gate.log")
-    status, wall, sums = watched(["bash", ".ci/run"], log)
-    text = page(status, wall, sums, log) + sections()
+    open(log, "w").close()
+    walls, sums = [], collections.Counter()
+    for command in ([["rt", "ci", *given.first]] if given.first else []) + [["bash", ".ci/run"]]:
+        status, wall, taken = watched(command, log)
+        walls.append(wall)
+        sums += taken
+    text = page(status, walls, sums, log) + sections()
     remember()
     with open(PAGE, "w") as file:
         file.write(text)
-    print(f"status {status}, {wall:.0f} s; {log}")
+    print(f"status {status}, {sum(walls):.0f} s; {log}")
     sys.exit(status)
 
 

@@ -5,9 +5,9 @@
 
 Such a call is given an allocator, or answers an error that can be lack of memory. A row of the table names calls: types with their
 calls behind a colon, or functions alone, and semicolons between; of a name that ends with two dots each call is meant that begins
-so. What the row's program asks has to be called in its sources, or in those of the libraries of questions below it, by its name,
-or by that of the call that asks it, which stands in the table below. Prints each call that no row names, and each that isn't
-called, and exits with 1 where there is one. With --list each call is printed with the first words of the questions that ask it.
+so. What a row names has to be called in the member's sources in tests/program, or in what members share there, by its name, or by
+that of the call that asks it, which stands in the table below. Prints each call that no row names, and each that isn't called, and
+exits with 1 where there is one. With --list each call is printed with the first words of the questions that ask it.
 """
 
 import argparse
@@ -29,8 +29,10 @@ import programs  # noqa: E402
 FACES = (*calling.FACES, "rpki_bundle")
 GROWTHS = ("AllocError", "AllocFailed", "Memory")
 NAME = re.compile(r"\w+(?:\.\.)?")
-# Calls that programs ask by others alone, which call them.
+SHARED = "answers"
+# Calls that are asked by others alone, which call them.
 WITHIN = {
+    "SignerInfo::from_constructed": "decode",
     "SignedContent::from_content": "decode",
     "Values::write_known": "write_encoded",
     "write_octets": "write_header",
@@ -99,7 +101,7 @@ def asked():
             owners, colon, names = part.rpartition(":")
             for owner in NAME.findall(owners) or [""]:
                 for name in NAME.findall(names):
-                    found[owner].setdefault(name, f"{row.program} {row.words}")
+                    found[owner].setdefault(name, f"{row.member} {row.words}")
     return found
 
 
@@ -108,17 +110,15 @@ def words_of(names, call):
 
 
 @functools.cache
-def questions(program):
-    """The sources of a program of questions, and of the libraries of questions that it stands on."""
-    below = programs.libraries()
-    crates = [program, *(name for name in below[program] if "answers" in below[name])]
-    paths = (path for name in crates for path in (programs.CRATES / name / "src").rglob("*.rt"))
+def sources(member):
+    """What the program of tests/program has for a member, and what members share."""
+    paths = (path for part in (member, SHARED) for path in (programs.ASKED / f"{part}.rt.in", *(programs.ASKED / part).rglob("*.rt.in")))
     return "\n".join(calls.COMMENT.sub("", path.read_text()) for path in paths)
 
 
-def is_called(program, name):
-    """Whether a program's sources have a call of that name."""
-    return re.search(rf"\b{name}\s*(?:::<[^()]*>)?\(|::{name}\b", questions(program)) is not None
+def is_called(member, name):
+    """Whether a member's sources have a call of that name."""
+    return re.search(rf"\b{name}\s*(?:::<[^()]*>)?\(|::{name}\b", sources(member)) is not None
 
 
 def main():

@@ -3,8 +3,8 @@ use Rattle.std.specs.Prelude.{◌≡◌, ℕ, List, Some, true, Err}
 use Rattle.certs.specs.certs_basics.Lists.{Mem}
 use Rattle.certs.specs.certs_basics.Verdicts.{Verdicts}
 use Rattle.certs.specs.certs_x509.declared.errors.validation.ValidationError.{ValidationError}
-use Rattle.objects.specs.objects_rsc.Checklists.{CheckedFile, Checklist}
-use Rattle.objects.specs.objects_rsc.Processed.{PassesChecklist, ProcessesChecklist}
+use Rattle.objects.specs.Checklists.{CheckedFile, Checklist}
+use Rattle.objects.specs.ProcessedChecklists.{PassesChecklist, ProcessesChecklist}
 use Rattle.objects.specs.objects_valid.Accepted.{AcceptsObject}
 use Rattle.objects.specs.objects_valid.Kinds.{KindValue}
 use Rattle.objects.specs.objects_valid.Processed.{Test}

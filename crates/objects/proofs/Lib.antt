@@ -4,6 +4,7 @@ pub mod Kept
 pub mod Made
 pub mod ManifestAgain
 pub mod OfFamily
+pub mod OneChecklist
 pub mod Refused
 pub mod RoaAgain
 pub mod SignedAgain

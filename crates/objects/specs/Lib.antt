@@ -1,7 +1,11 @@
 pub mod Again
 pub mod Attested
+pub mod ChecklistEntries
+pub mod Checklists
 pub mod Issued
+pub mod Lent
 pub mod Making
+pub mod ProcessedChecklists
 pub mod Providers
 pub mod Refusing
 pub mod Uris
@@ -11,7 +15,6 @@ pub use Rattle.certs.specs as certs
 pub use Rattle.objects_written.specs as objects_written
 pub use Rattle.objects_payload.specs as objects_payload
 pub use Rattle.objects_cms.specs as objects_cms
-pub use Rattle.objects_rsc.specs as objects_rsc
 pub use Rattle.objects_valid.specs as objects_valid
 pub use Rattle.objects_written.specs.bcder_tree as bcder_tree
 pub use Rattle.objects_written.specs.bcder_content as bcder_content

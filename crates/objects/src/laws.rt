@@ -8,6 +8,7 @@
 //! | [`built`] | signed objects that are built are read again, and are sound |
 //! | [`frame`] | what is written around a content is read again |
 //! | [`issued`] | manifests and route origin attestations that are signed are read again |
+//! | [`rsc`] | contents of signed checklists |
 //! | [`sound`] | sound objects |
 //! | [`tal`] | trust anchor locators |
 //! | [`written`] | contents that are written are read again |
@@ -15,6 +16,7 @@
 pub use crate::again::laws as again;
 pub use crate::attested::laws as attested;
 pub use crate::issued::laws as issued;
+pub use crate::rsc::laws as rsc;
 pub use objects_cms::verify::laws as sound;
 pub use objects_payload::aspa::laws as aspa;
 pub use objects_payload::locator::laws as tal;

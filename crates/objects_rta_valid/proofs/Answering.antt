@@ -9,9 +9,9 @@ use Rattle.objects_rta.specs.objects_payload.ObjectText.{Signer, signer_of}
 use Rattle.certs_verify.specs.certs_basics.HandedIn.{Digests}
 use Rattle.certs_verify.specs.certs_basics.Lists.{Each, FirstFailing}
 use Rattle.certs_verify.specs.certs_basics.Verdicts.{Verdicts}
-use Rattle.objects_paths.specs.Nodes.{Node, each_octets}
-use Rattle.objects_paths.specs.Paths.{AreAllOn, ArePaths, HasNoOnlyPath, IsFirstOff, IsOnlyPath, PathsValue}
-use Rattle.objects_paths.specs.Keys.{AreSame}
+use Rattle.objects_rta_valid.specs.Nodes.{Node, each_octets}
+use Rattle.objects_rta_valid.specs.Paths.{AreAllOn, ArePaths, HasNoOnlyPath, IsFirstOff, IsOnlyPath, PathsValue}
+use Rattle.objects_rta_valid.specs.Keys.{AreSame}
 use Rattle.objects_rta.specs.AttestationParts.{RtaValue}
 use Rattle.objects_rta_valid.specs.declared.errors.RtaError.{RtaError}
 use Rattle.objects_rta_valid.specs.declared.errors.RtaError.TheVariants.{Test, Memory}

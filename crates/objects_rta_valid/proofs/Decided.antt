@@ -4,8 +4,8 @@ use Rattle.std.specs.Prelude.{◌⊎◌, Contains}
 use Rattle.std.specs.List.{slice_get}
 use Rattle.std.proofs.lemmas.Bool.Decides.{eqb_tells}
 use Rattle.std.proofs.lemmas.Option.{same_Some}
-use Rattle.objects_paths.specs.Nodes.{Node, IsBelow, IsSelfSigned}
-use Rattle.objects_paths.specs.Paths.{Continues}
+use Rattle.objects_rta_valid.specs.Nodes.{Node, IsBelow, IsSelfSigned}
+use Rattle.objects_rta_valid.specs.Paths.{Continues}
 
 abbrev pub Decided : Type 0 → Type 0
 Decided P = P ⊎ (P → ⊥)

@@ -4,8 +4,8 @@ use Rattle.std.proofs.Common.{◌≡◌, ℕ, ◌<◌, ◌≤◌, zero, suc, tru
 use Rattle.std.specs.Prelude.{◌⊎◌, Contains}
 use Rattle.std.proofs.lemmas.Bool.Decides.{eqb_tells}
 use Rattle.std.proofs.lemmas.Option.{same_Some, slice_get_within}
-use Rattle.objects_paths.specs.Nodes.{Node, IsSelfSigned}
-use Rattle.objects_paths.specs.Paths.{AreAllOn, At, Continues, Follows, IsOnlyPath}
+use Rattle.objects_rta_valid.specs.Nodes.{Node, IsSelfSigned}
+use Rattle.objects_rta_valid.specs.Paths.{AreAllOn, At, Continues, Follows, IsOnlyPath}
 use Rattle.certs_verify.specs.certs_basics.Lists.{Mem}
 use Rattle.objects_rta_valid.specs.Apart.{AreApart, AreOnly}
 use Rattle.objects_rta_valid.proofs.Decided.{continues_decided, self_decided}

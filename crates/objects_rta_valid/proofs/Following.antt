@@ -2,7 +2,7 @@
 use Rattle.std.proofs.Common.{◌≡◌, ℕ, List, length, map, refl, sym, ap, ◌∙◌, subst}
 use Rattle.std.proofs.lemmas.List.{length-map}
 use Rattle.certs_verify.specs.certs_extension.Cert.{CertValue}
-use Rattle.objects_paths.specs.Paths.{AreAllOn, PathsValue}
+use Rattle.objects_rta_valid.specs.Paths.{AreAllOn, PathsValue}
 use Rattle.objects_rta.specs.AttestationParts.{RtaValue}
 use Rattle.objects_rta_valid.specs.Apart.{AreApart}
 use Rattle.objects_rta_valid.specs.Places.{AreFunctional, BeginBelow, pairs}

@@ -6,7 +6,7 @@ use Rattle.std.specs.Option.{option_map}
 use Rattle.std.proofs.lemmas.Option.{same_Some, slice_get-get_or, slice_get-map}
 use Rattle.std.proofs.lemmas.Slice.Eq.{bytes_eq-Decides}
 use Rattle.std.proofs.Math.Seq.{get_or-append_seam}
-use Rattle.objects_paths.specs.Nodes.{each_octets}
+use Rattle.objects_rta_valid.specs.Nodes.{each_octets}
 use Rattle.objects_rta_valid.specs.Keyed.{Adds, IsKeyed, IsKeyedTo, IsLast, KeyAt, last_place}
 use Rattle.objects_rta_valid.specs.declared.keyed.KeyPlaces.{KeyPlaces}
 

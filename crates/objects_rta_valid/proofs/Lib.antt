@@ -1,3 +1,17 @@
+mod Members
+mod Deciding
+mod Completing
+mod Fronts
+mod Picking
+mod FollowingPaths
+mod KeptPaths
+mod Sets
+mod Apart
+mod Running
+mod Fresh
+mod Underway
+mod Only
+mod Neighbours
 mod Flat
 pub mod Tables
 mod Walks

@@ -10,7 +10,7 @@ use Rattle.certs_verify.specs.certs_basics.Verdicts.{Verdicts}
 use Rattle.certs_verify.specs.certs_extension.Cert.{CertValue}
 use Rattle.certs_verify.specs.certs_extension.CrlText.{CrlValue, IsOn}
 use Rattle.certs_verify.specs.certs_extension.Verified.{IsSignedAt}
-use Rattle.objects_paths.specs.Nodes.{Node, IsSelfSigned}
+use Rattle.objects_rta_valid.specs.Nodes.{Node, IsSelfSigned}
 use Rattle.objects_rta_valid.specs.Apart.{AreApart, AreOnly}
 use Rattle.objects_rta_valid.specs.Places.{AreLinks, BeginBelow, Stands, pairs}
 use Rattle.objects_rta_valid.specs.Certs.{ArePairSigned, IsGoodList, IsOwnAnchor, IsPairUnrevoked, IsUnrevoked, NamesItself, node_of}

@@ -6,7 +6,7 @@ use Rattle.std.proofs.lemmas.List.{append-nil}
 use Rattle.certs_verify.specs.certs_basics.Lists.{Each, Mem}
 use Rattle.certs_verify.specs.certs_extension.Cert.{CertValue}
 use Rattle.certs_verify.specs.certs_extension.CrlText.{CrlValue}
-use Rattle.objects_paths.specs.Nodes.{each_octets}
+use Rattle.objects_rta_valid.specs.Nodes.{each_octets}
 use Rattle.objects_rta_valid.specs.Certs.{IsUsed}
 use Rattle.objects_rta_valid.specs.Keyed.{HasPlace, IsKeyed, KeyAt}
 use Rattle.objects_rta_valid.specs.Vouched.{authority_of, key_list, subject_of, upper_key, upper_keys}

@@ -1,8 +1,8 @@
 -- What paths say of places that are neighbours.
 use Rattle.std.proofs.Common.{◌≡◌, ℕ, List, [], ◌∷◌, length, true, refl, sym, ap, ◌∙◌, subst, inl, inr}
 use Rattle.std.proofs.lemmas.Option.{same_Some, slice_get_within}
-use Rattle.objects_paths.specs.Nodes.{Node, IsBelow, IsSelfSigned}
-use Rattle.objects_paths.specs.Paths.{At, Follows, IsPath}
+use Rattle.objects_rta_valid.specs.Nodes.{Node, IsBelow, IsSelfSigned}
+use Rattle.objects_rta_valid.specs.Paths.{At, Follows, IsPath}
 use Rattle.certs_verify.specs.certs_basics.Lists.{Mem}
 use Rattle.objects_rta_valid.specs.Places.{AreFunctional, BeginBelow, pairs, pairs_from, pairs_of}
 use Rattle.objects_rta_valid.specs.Apart.{AreApart, AreOnly}

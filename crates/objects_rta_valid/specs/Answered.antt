@@ -3,7 +3,7 @@ use Rattle.std.specs.Prelude.{◌≡◌, ℕ, Bool, List, length, Result, Ok, Er
 use Rattle.certs_verify.specs.certs_basics.HandedIn.{Digests}
 use Rattle.certs_verify.specs.certs_basics.Lists.{Each, FirstFailing}
 use Rattle.certs_verify.specs.certs_basics.Verdicts.{Verdicts}
-use Rattle.objects_paths.specs.Paths.{AreAllOn, PathsValue}
+use Rattle.objects_rta_valid.specs.Paths.{AreAllOn, PathsValue}
 use Rattle.objects_rta.specs.AttestationParts.{RtaValue}
 use Rattle.objects_rta_valid.specs.declared.errors.RtaError.{RtaError}
 use Rattle.objects_rta_valid.specs.declared.errors.RtaError.TheVariants.{Test, Memory}

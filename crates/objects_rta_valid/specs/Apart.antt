@@ -1,8 +1,8 @@
 -- Certificates that are told apart by the identifiers of their keys, and the paths of signers.
 use Rattle.std.specs.Prelude.{◌≡◌, ℕ, List}
 use Rattle.std.specs.List.{AllZip}
-use Rattle.objects_paths.specs.Nodes.{Node}
-use Rattle.objects_paths.specs.Paths.{At, IsOnlyPath}
+use Rattle.objects_rta_valid.specs.Nodes.{Node}
+use Rattle.objects_rta_valid.specs.Paths.{At, IsOnlyPath}
 
 -- No two certificates have one subject key identifier (RFC 6487 4.8.2).
 abbrev pub AreApart : List Node → Type 0

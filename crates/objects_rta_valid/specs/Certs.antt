@@ -8,7 +8,7 @@ use Rattle.certs_verify.specs.certs_extension.CrlText.{CrlValue, IsOn, IsStale}
 use Rattle.certs_verify.specs.certs_extension.Profiles.{Profile}
 use Rattle.certs_verify.specs.certs_extension.Verified.{IsAnchorAt, IsSignedAt, IsSignedBy}
 use Rattle.certs_verify.specs.certs_extension.declared.forms.Role.TheVariants.{Ca, DetachedEe, Ta}
-use Rattle.objects_paths.specs.Nodes.{Node, IsSelfSigned}
+use Rattle.objects_rta_valid.specs.Nodes.{Node, IsSelfSigned}
 use Rattle.objects_rta_valid.specs.Places.{Stands}
 
 -- What paths know of a certificate: the identifiers of its key and of its issuer's, and whether it is an authority's

@@ -1,3 +1,11 @@
+pub mod Nodes
+pub mod Paths
+pub mod Keys
+pub mod OnPaths
+pub mod Tables
+pub mod Runs
+pub mod Following
+pub mod Kept
 pub mod Places
 pub mod Apart
 pub mod Certs

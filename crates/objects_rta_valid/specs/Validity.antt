@@ -6,9 +6,9 @@ use Rattle.certs_verify.specs.certs_basics.HandedIn.{Digests}
 use Rattle.certs_verify.specs.certs_basics.Lists.{Each, FirstFailing}
 use Rattle.certs_verify.specs.certs_basics.Verdicts.{Verdicts}
 use Rattle.certs_verify.specs.certs_extension.Cert.{CertValue}
-use Rattle.objects_paths.specs.Keys.{AreSame}
-use Rattle.objects_paths.specs.Nodes.{Node}
-use Rattle.objects_paths.specs.Paths.{AreAllOn}
+use Rattle.objects_rta_valid.specs.Keys.{AreSame}
+use Rattle.objects_rta_valid.specs.Nodes.{Node}
+use Rattle.objects_rta_valid.specs.Paths.{AreAllOn}
 use Rattle.objects_rta.specs.objects_payload.ObjectText.{Object, Signer, Sound}
 use Rattle.objects_rta.specs.AttestationParts.{RtaValue}
 use Rattle.objects_rta.specs.MultiText.{Multi}

@@ -16,10 +16,10 @@ use crate::content::are_sound;
 use crate::errors::{RtaError, RtaTest};
 use crate::forms::{are_current, are_issuers, are_signers};
 use crate::lists::{are_served, are_used, good_lists};
+use crate::paths::Paths;
 use crate::places::{first_places, links, neighbours};
 use crate::terms::Terms;
 use certs_verify::{Cert, Digester, Verifier};
-use objects_paths::Paths;
 use objects_rta::{Crl, Rta, SignerInfo, Time};
 use std::alloc::{AllocError, Global};
 

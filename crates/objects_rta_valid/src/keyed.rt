@@ -1,7 +1,7 @@
 //! Places of key identifiers in a list, found by halving.
 
 ghost use Rattle.std.specs.Prelude.{◌≡◌, IfOk, None, OnOk, get_or};
-ghost use Rattle.objects_paths.specs.Nodes.{each_octets};
+ghost use Rattle.objects_rta_valid.specs.Nodes.{each_octets};
 ghost use Rattle.objects_rta_valid.specs.Keyed.{Adds, IsKeyed, last_place};
 
 use std::alloc::{AllocError, Global};

@@ -1,13 +1,13 @@
 //! The identifiers of keys that an attestation carries, lent for the search of paths.
 
 ghost use Rattle.std.specs.Prelude.{◌≡◌, ◌++◌, IfOk, OnOk, map};
-ghost use Rattle.objects_paths.specs.Nodes.{each_octets};
+ghost use Rattle.objects_rta_valid.specs.Nodes.{each_octets};
 ghost use Rattle.objects_rta_valid.specs.Certs.{node_of};
 ghost use Rattle.objects_rta_valid.specs.Vouched.{authority_of, subject_of, upper_key, upper_keys};
 
 use crate::certs::cert_at;
+use crate::paths::NodeKeys;
 use certs_verify::Cert;
-use objects_paths::NodeKeys;
 use objects_rta::{Crl, KeyIdentifier, SignerInfo};
 use std::alloc::{AllocError, Global};
 use std::marker::Model;
@@ -22,7 +22,7 @@ pub(crate) struct CertKeys {
 }
 
 impl Model for CertKeys {
-    ghost use Rattle.objects_paths.specs.Nodes.{Node};
+    ghost use Rattle.objects_rta_valid.specs.Nodes.{Node};
 
     ghost Value = { Node };
 

@@ -23,6 +23,7 @@ mod judge;
 mod keyed;
 mod keys;
 mod lists;
+pub mod paths;
 mod places;
 mod terms;
 pub mod validation;
@@ -30,6 +31,6 @@ mod walk;
 
 pub use certs_verify::{Cert, Digester, ResourceCert, Verifier};
 pub use errors::{RtaError, RtaTest};
-pub use objects_paths::{PathPlaces, Paths};
 pub use objects_rta::{Clock, Rta, Time};
+pub use paths::{PathPlaces, Paths};
 pub use validation::Validation;

@@ -3,7 +3,7 @@
 ghost use Rattle.std.specs.Prelude.{◌≡◌, ◌++◌, IfOk, OnOk, length};
 ghost use Rattle.objects_rta_valid.specs.Places.{AreFunctional, AreLinks, ArePairsTo, BeginBelow, HaveSame, first_of, firsts, link_pair, linked, pairs, pairs_of};
 
-use objects_paths::{PathPlaces, Paths};
+use crate::paths::{PathPlaces, Paths};
 use std::alloc::{AllocError, Global};
 
 // Adds the first place of a path.

@@ -7,10 +7,10 @@ ghost use Rattle.objects_rta_valid.specs.Validity.{AreItsPaths};
 
 use crate::errors::RtaError;
 use crate::judge::judge;
+use crate::paths::Paths;
 use crate::terms::Terms;
 use crate::walk::walk;
 use certs_verify::{Digester, Verifier};
-use objects_paths::Paths;
 use objects_rta::{Clock, Rta, Time};
 use std::alloc::Global;
 use std::marker::Model;

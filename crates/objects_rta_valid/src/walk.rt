@@ -1,15 +1,15 @@
 //! The paths of an attestation's signers, and what is tested of them.
 
 ghost use Rattle.std.specs.Prelude.{◌↔◌, IfOk, IsTrue, MatchOption, List, ℕ};
-ghost use Rattle.objects_paths.specs.Keys.{AreSame};
-ghost use Rattle.objects_paths.specs.Paths.{AreAllOn};
+ghost use Rattle.objects_rta_valid.specs.Keys.{AreSame};
+ghost use Rattle.objects_rta_valid.specs.Paths.{AreAllOn};
 ghost use Rattle.objects_rta_valid.specs.Validity.{AreItsPaths, sids};
 ghost use Rattle.objects_rta_valid.specs.Answered.{IsWalk, WalksTo};
 
 use crate::errors::{RtaError, RtaTest};
 use crate::judge::{certs_of, signers_of};
 use crate::keys::{keys_of, lend_keys, lend_nodes, sids_of};
-use objects_paths::{Paths, are_same_keys, paths};
+use crate::paths::{Paths, are_same_keys, paths};
 use objects_rta::Rta;
 use std::alloc::{AllocError, Global};
 

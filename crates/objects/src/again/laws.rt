@@ -9,7 +9,7 @@ ghost use Rattle.objects_written.specs.objects_payload.Aspas.{Aspa as AspaValue,
 ghost use Rattle.objects_written.specs.objects_payload.Manifests.{Manifest as ManifestValue, ManifestText};
 ghost use Rattle.objects_written.specs.objects_payload.ObjectText.{IsSignedMessage, Object, ObjectText, Signer};
 ghost use Rattle.objects_written.specs.objects_payload.Roas.{Roa as RoaValue, RoaText};
-ghost use Rattle.objects_rsc.specs.Checklists.{Checklist as ChecklistValue, ChecklistText};
+ghost use Rattle.objects.specs.Checklists.{Checklist as ChecklistValue, ChecklistText};
 ghost use Rattle.objects.specs.Again.{StandsInDer, WritesAgain, with_null};
 ghost use Rattle.objects_written.specs.Taking.{in_der};
 

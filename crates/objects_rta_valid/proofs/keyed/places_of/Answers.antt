@@ -1,5 +1,5 @@
 use Rattle.std.proofs.Common.{ℕ, List, [], Bor, get_or, arith, rules}
-use Rattle.objects_paths.specs.Nodes.{each_octets}
+use Rattle.objects_rta_valid.specs.Nodes.{each_octets}
 use Rattle.objects_rta_valid.proofs.Keying.{keyed_all, keyed_more, keyed_none, lent_at}
 use Rattle.objects_rta_valid.proofs.keyed.places_of.Goals as goal
 

@@ -1,4 +1,4 @@
-use Rattle.objects_paths.specs.Nodes.{each_octets}
+use Rattle.objects_rta_valid.specs.Nodes.{each_octets}
 use Rattle.objects_rta_valid.specs.Keyed.{IsKeyedTo}
 use Rattle.objects_rta_valid.proofs.keyed.places_of.Given as goal
 

@@ -1,5 +1,5 @@
 use Rattle.std.proofs.Common.{◌≡◌, ◌++◌, length}
-use Rattle.objects_paths.specs.Nodes.{each_octets}
+use Rattle.objects_rta_valid.specs.Nodes.{each_octets}
 use Rattle.objects_rta_valid.proofs.keys.lend_keys.Given as goal
 
 abbrev pub invariant-loop-key : goal.invariant-loop-key

@@ -1,5 +1,5 @@
 use Rattle.certs_verify.specs.certs_key.Digesting.{digests_of}
-use Rattle.objects_paths.specs.Paths.{PathsValue}
+use Rattle.objects_rta_valid.specs.Paths.{PathsValue}
 use Rattle.objects_rta_valid.proofs.Answering.{other_answer, walk_fails}
 use Rattle.objects_rta_valid.proofs.validation.examine.Goals as goal
 

@@ -1,5 +1,5 @@
 use Rattle.std.proofs.Common.{ap, ◌∙◌}
-use Rattle.objects_paths.specs.Nodes.{each_octets}
+use Rattle.objects_rta_valid.specs.Nodes.{each_octets}
 use Rattle.objects_rta.specs.Attestations.{Attestation}
 use Rattle.objects_rta_valid.proofs.Answering.{keys_told}
 use Rattle.objects_rta_valid.proofs.walk.are_keys_same.Goals as goal

@@ -1,6 +1,6 @@
 use Rattle.std.proofs.Common.{List, ap, map, ◌∙◌}
 use Rattle.certs_verify.specs.certs_extension.Cert.{CertValue}
-use Rattle.objects_paths.specs.Nodes.{each_octets}
+use Rattle.objects_rta_valid.specs.Nodes.{each_octets}
 use Rattle.objects_rta_valid.specs.Certs.{node_of}
 use Rattle.objects_rta_valid.proofs.Answering.{found_told, sids_told}
 use Rattle.objects_rta_valid.proofs.walk.only_paths.Goals as goal

@@ -1,6 +1,6 @@
 use Rattle.std.proofs.Common.{ℕ, List, Option, subst}
 use Rattle.std.specs.Prelude.{MatchOption}
-use Rattle.objects_paths.specs.Paths.{PathsValue}
+use Rattle.objects_rta_valid.specs.Paths.{PathsValue}
 use Rattle.objects_rta_valid.specs.Answered.{IsWalk}
 use Rattle.objects_rta_valid.specs.Validity.{AreItsPaths}
 use Rattle.objects_rta_valid.proofs.Answering.{first_certificates, first_keys, first_paths, walked}

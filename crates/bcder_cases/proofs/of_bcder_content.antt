@@ -1,2 +1,0 @@
--- Lemmas of bcder_content, for the crates above.
-pub use Rattle.bcder.proofs.of_bcder_content.Took

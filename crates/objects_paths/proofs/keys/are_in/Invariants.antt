@@ -1,7 +1,0 @@
-use Rattle.std.proofs.Common.{All, IsTrue, take}
-use Rattle.objects_paths.specs.Nodes.{each_octets}
-use Rattle.objects_paths.specs.Tables.{holds}
-use Rattle.objects_paths.proofs.keys.are_in.Given as goal
-
-abbrev pub invariant-loop-key : goal.invariant-loop-key
-invariant-loop-key l = All (λ key. IsTrue (holds l.set key)) (take l.key-index (each_octets l.keys))

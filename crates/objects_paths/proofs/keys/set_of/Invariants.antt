@@ -1,7 +1,0 @@
-use Rattle.std.proofs.Common.{take}
-use Rattle.objects_paths.specs.Nodes.{each_octets}
-use Rattle.objects_paths.specs.Tables.{IsSetOf}
-use Rattle.objects_paths.proofs.keys.set_of.Given as goal
-
-abbrev pub invariant-loop-key : goal.invariant-loop-key
-invariant-loop-key l = IsSetOf (take l.key-index (each_octets l.keys)) l.set

@@ -1,4 +1,0 @@
-use Rattle.objects_paths.proofs.laws.one_only_path.Goals as goal
-
-pub returns : goal.returns
-returns c = λ nodes sid a b p q. q.only a p.is

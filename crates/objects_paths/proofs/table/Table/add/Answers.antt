@@ -1,9 +1,0 @@
-use Rattle.std.proofs.Common.{ap, ◌∙◌}
-use Rattle.objects_paths.specs.Tables.{one_more}
-use Rattle.objects_paths.specs.declared.table.Found.{Found}
-use Rattle.objects_paths.proofs.Picking.{adds}
-use Rattle.objects_paths.proofs.table.Table.add.Goals as goal
-
-pub returns : goal.returns
-returns c =
-    adds c.args.self.now.found c.insert.new.self c.args.key.now c.args.place c.with-found.result (c.with-found.ensures ∙ ap (λ (f : Found). one_more f c.args.place) c.find.ensures) c.in_ok-insert.ensures.updates

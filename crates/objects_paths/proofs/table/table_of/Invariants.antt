@@ -1,5 +1,0 @@
-use Rattle.objects_paths.proofs.Picking.{TellsBefore}
-use Rattle.objects_paths.proofs.table.table_of.Given as goal
-
-abbrev pub invariant-loop-place : goal.invariant-loop-place
-invariant-loop-place l = TellsBefore l.nodes l.issuers l.place l.table

@@ -1,2 +1,0 @@
--- What stands below.
-pub use Rattle.resources.specs.resources_chain as resources_chain

@@ -1,2 +1,0 @@
--- What stands below, for the crates above.
-pub use Rattle.resources.specs as resources
