@@ -4,7 +4,7 @@ ghost use Rattle.std.specs.Prelude.{◌++◌, bytes_eq};
 ghost use Rattle.sha1.specs.Sha1.{sha1 as sha1_of};
 ghost use Rattle.sha2.specs.Sha256.{sha256 as sha256_of};
 
-use certs::x509::{PublicKey, RpkiSignatureAlgorithm, Verifier};
+use certs_key::{PublicKey, RpkiSignatureAlgorithm, Verifier};
 use rpki_validator::Digester;
 use sha1::Sha1;
 use sha2::{Digest, Sha256};
