@@ -1,7 +1,6 @@
 //! What a certificate has: an example of a program on certificates, the face `certs`.
 //!
-//! Each line of standard input has the octets of a certificate, in hexadecimal digits. It is answered by what the
-//! certificate has, a line each, or by why the octets begin with none.
+//! Each line of standard input has the octets of one in hexadecimal digits, and is answered by what it has, or why it is none.
 #![tactic(auto)]
 
 ghost use Rattle.std.specs.Prelude.{IfOk, string_bytes};
@@ -36,21 +35,6 @@ fn addresses(alloc: Global, family: AddressFamily, claimed: &IpResources) -> Res
     }
 }
 
-// Whose it is, by whom, from when to when, whether it is an authority's, and what it claims.
-fn show_fields(rt: &HostRuntime, tbs: &TbsCert) -> Result<()> {
-    println!(rt; "serial number {}", tbs.serial_number())?;
-    let issuer = hex::encode(rt.alloc(), tbs.issuer().as_slice())?;
-    let subject = hex::encode(rt.alloc(), tbs.subject().as_slice())?;
-    println!(rt; "issuer {issuer}\nsubject {subject}")?;
-    println!(rt; "key {}", tbs.subject_key_identifier())?;
-    let from = moment_text(rt.alloc(), tbs.validity().not_before())?;
-    let to = moment_text(rt.alloc(), tbs.validity().not_after())?;
-    println!(rt; "from {from}\nto {to}\nauthority {}", tbs.is_ca())?;
-    let v4 = addresses(rt.alloc(), AddressFamily::Ipv4, tbs.v4_resources())?;
-    let v6 = addresses(rt.alloc(), AddressFamily::Ipv6, tbs.v6_resources())?;
-    Ok(println!(rt; "IPv4 {v4}\nIPv6 {v6}\nAS {}", tbs.as_resources())?)
-}
-
 // A URI, if it is there.
 fn show_uri(rt: &HostRuntime, what: &str, uri: Option<&Rsync>) -> Result<()> {
     if let Some(uri) = uri {
@@ -59,15 +43,31 @@ fn show_uri(rt: &HostRuntime, what: &str, uri: Option<&Rsync>) -> Result<()> {
     Ok(())
 }
 
+// Whose it is, by whom, from when to when, whether it is an authority's, what it claims, and its URIs.
+fn show_fields(rt: &HostRuntime, tbs: &TbsCert) -> Result<()> {
+    let issuer = hex::encode(rt.alloc(), tbs.issuer().as_slice())?;
+    let subject = hex::encode(rt.alloc(), tbs.subject().as_slice())?;
+    println!(rt; "serial number {}\nissuer {issuer}", tbs.serial_number())?;
+    println!(rt; "subject {subject}\nkey {}", tbs.subject_key_identifier())?;
+    let from = moment_text(rt.alloc(), tbs.validity().not_before())?;
+    let to = moment_text(rt.alloc(), tbs.validity().not_after())?;
+    println!(rt; "from {from}\nto {to}\nauthority {}", tbs.is_ca())?;
+    let v4 = addresses(rt.alloc(), AddressFamily::Ipv4, tbs.v4_resources())?;
+    let v6 = addresses(rt.alloc(), AddressFamily::Ipv6, tbs.v6_resources())?;
+    println!(rt; "IPv4 {v4}\nIPv6 {v6}\nAS {}", tbs.as_resources())?;
+    show_uri(rt, "revocation list", tbs.crl_uri())?;
+    show_uri(rt, "repository", tbs.ca_repository())?;
+    show_uri(rt, "manifest", tbs.rpki_manifest())?;
+    show_uri(rt, "object", tbs.signed_object())
+}
+
 // Shows the certificate of hexadecimal digits.
 fn show(rt: &HostRuntime, digits: &str) -> Result<()> {
     let octets = hex::decode(rt.alloc(), digits)?;
     let cert = Cert::decode(rt.alloc(), octets.as_slice())?;
-    show_fields(rt, cert.tbs())?;
-    show_uri(rt, "revocation list", cert.tbs().crl_uri())?;
-    show_uri(rt, "repository", cert.tbs().ca_repository())?;
-    show_uri(rt, "manifest", cert.tbs().rpki_manifest())?;
-    show_uri(rt, "object", cert.tbs().signed_object())
+    let shown = show_fields(rt, cert.tbs());
+    drop(cert);
+    shown
 }
 
 fn main(rt: HostRuntime) -> Result<()> {

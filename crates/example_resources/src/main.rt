@@ -12,23 +12,34 @@ use claims::outside;
 use resources::ResourceSet;
 use std::alloc::Global;
 
+// The answer to what is held from here on.
+fn hold(alloc: Global, held: &mut ResourceSet, set: ResourceSet) -> Result<String> {
+    *held = set;
+    Ok(format!(in alloc; "held {held}")?)
+}
+
+// The answer to a claim.
+fn claim(alloc: Global, held: &ResourceSet, claimed: ResourceSet) -> Result<String> {
+    let found = outside(alloc, held, &claimed);
+    drop(claimed);
+    match found? {
+        None => Ok("inside".to_string(alloc)?),
+        Some(set) => Ok(format!(in alloc; "outside {set}")?),
+    }
+}
+
 // The answer to a line, which may change what is held.
 fn answer(alloc: Global, held: &mut ResourceSet, line: &str) -> Result<String> {
     let words: Vec<&str> = line.split('\t').collect(alloc)?;
-    let [word, asn, ipv4, ipv6] = words.as_slice() else {
-        return Err(anyhow!("not a word and three texts"));
-    };
-    let set = ResourceSet::from_strs(alloc, *asn, *ipv4, *ipv6)?;
-    match *word {
-        "hold" => {
-            *held = set;
-            Ok(format!(in alloc; "held {held}")?)
-        }
-        "claim" => match outside(alloc, held, &set)? {
-            None => Ok("inside".to_string(alloc)?),
-            Some(set) => Ok(format!(in alloc; "outside {set}")?),
-        },
-        _ => Err(anyhow!("neither 'hold' nor 'claim'")),
+    match words.as_slice() {
+        ["hold", asn, v4, v6] => hold(alloc, held, ResourceSet::from_strs(alloc, *asn, *v4, *v6)?),
+        ["claim", asn, v4, v6] => claim(
+            alloc,
+            held,
+            ResourceSet::from_strs(alloc, *asn, *v4, *v6)?,
+        ),
+        [_, _, _, _] => Err(anyhow!("neither 'hold' nor 'claim'")),
+        _ => Err(anyhow!("not a word and three texts")),
     }
 }
 
