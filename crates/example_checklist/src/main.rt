@@ -28,10 +28,13 @@ fn anchor_of(alloc: Global, digits: &str, now: Time) -> Result<ResourceCert> {
         return Err(anyhow!("no certificate"));
     };
     let mut verifier = StandIn { asked: 0 };
-    let Ok(anchor) = cert.validate_ta_at(tal, true, now, &Fips, &mut verifier) else {
-        return Err(anyhow!("no trust anchor"));
-    };
-    Ok(anchor)
+    match cert.validate_ta_at(tal, true, now, &Fips, &mut verifier) {
+        Ok(anchor) => Ok(anchor),
+        Err(refused) => {
+            drop(refused);
+            Err(anyhow!("no trust anchor"))
+        }
+    }
 }
 
 // The checklist of hexadecimal digits.
@@ -60,27 +63,36 @@ fn checked(
     Ok(is_checked(alloc, rsc, &mut terms, |_| Ok(()), file)?)
 }
 
+// Whether a file, of a name and of the octets of hexadecimal digits, is one of a checklist below the issuer.
+fn below(
+    alloc: Global,
+    issuer: &ResourceCert,
+    now: Time,
+    checklist: &str,
+    file: (&str, &str),
+) -> Result<bool> {
+    let (name, digits) = file;
+    let octets = hex::decode(alloc, digits)?;
+    let rsc = checklist_of(alloc, checklist)?;
+    let file = File {
+        name: name.as_bytes(),
+        octets: octets.as_slice(),
+    };
+    checked(alloc, rsc, issuer, now, file)
+}
+
 // Whether the file of a line's words is one of its checklist.
 fn answered(alloc: Global, words: &[&str]) -> Result<bool> {
     let [moment, anchor, checklist, name, octets] = words else {
         return Err(anyhow!("not five words"));
     };
-    let Some(moment) = Time::from_generalized((*moment).as_bytes()) else {
+    let Some(now) = Time::from_generalized((*moment).as_bytes()) else {
         return Err(anyhow!("no moment"));
     };
-    let octets = hex::decode(alloc, *octets)?;
-    let issuer = anchor_of(alloc, *anchor, moment)?;
-    let file = File {
-        name: (*name).as_bytes(),
-        octets: octets.as_slice(),
-    };
-    checked(
-        alloc,
-        checklist_of(alloc, *checklist)?,
-        &issuer,
-        moment,
-        file,
-    )
+    let issuer = anchor_of(alloc, *anchor, now)?;
+    let said = below(alloc, &issuer, now, *checklist, (*name, *octets));
+    drop(issuer);
+    said
 }
 
 // Whether the file of a line is one of its checklist.
