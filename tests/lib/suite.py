@@ -59,8 +59,8 @@ class Test:
         return f"{self.words} {words}".split()
 
 
-# Of each member how many questions are asked at least: as many as there were when their answers were stored, and the gate asked them of
-# proved programs. So none is lost unseen; whoever takes questions away on purpose says so here.
+# Of each member how many questions are asked at least: as many as there were on 1 December 2026. So none is lost unseen; whoever takes
+# questions away on purpose says so here.
 FLOORS = {"certificates": 25_647, "codec": 27_189, "objects": 13_483, "resources": 9_860, "validator": 6_743}
 
 # Programs with stored input, which the gate proves and asks itself. Examples would be built for it alone, so they wait for `all`.
