@@ -38,8 +38,8 @@ pub enum SigningError<E> {
 ///
 /// `has_key` and `signs` are relations, so a signer may sign one message in more than one way. `refuses_key`, `refuses` and
 /// `refuses_once` tell by which errors it may refuse a key and a message, so that an error which is handed on is known to
-/// come from it, and of what. No signer answers `TooLong`, which is told of what is to be signed, before the signer is asked. The unused bits of the keys that it tells are zero, as DER has
-/// them (X.690 11.2.1).
+/// come from it, and of what. No signer answers `TooLong`, which is told of what is to be signed, before the signer is asked.
+/// The unused bits of the keys that it tells are zero, as DER has them (X.690 11.2.1).
 pub trait Signer {
     /// By what a key is named.
     type KeyId;
