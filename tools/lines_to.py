@@ -23,6 +23,8 @@ arguments.
 import argparse
 import calendar
 import collections
+import dataclasses
+import hashlib
 import io
 import json
 import re
@@ -60,6 +62,18 @@ class How(collections.namedtuple("How", "name moment lifetime aspa more", defaul
     def expiry(self):
         """When the lines are to be told no longer, in seconds since 1970; None where they have no end."""
         return self.seconds() + self.lifetime if self.moment and self.lifetime else None
+
+
+@dataclasses.dataclass(frozen=True)
+class Counts:
+    """How many origins and customers a file of lines has, how many refusals of each cause, and the names of locators among
+    these, each with its cause (`tal` or `anchor`)."""
+
+    path: str
+    origins: int
+    customers: int
+    causes: dict
+    locators: list
 
 
 class Lines:
@@ -116,6 +130,25 @@ def read(text):
         except BadLine as why:
             raise BadLine(f"line {count}: {why}") from None
     return lines
+
+
+def count(path):
+    """What the lines of a file say, in one pass: a Counts; raises BadLine."""
+    with open(path, "rb") as file:
+        try:
+            lines = read(file.read().decode("ascii"))
+        except UnicodeDecodeError as why:
+            raise BadLine(str(why)) from None
+    told = [row for row in lines.refusals if row[1] in ("tal", "anchor")]
+    return Counts(path, len(lines.origins), len(lines.customers), lines.causes(), told)
+
+
+def write(form, counts, how, out):
+    """Writes the lines that were counted in a form to a binary file, and returns the SHA-256 digest of that in hexadecimal."""
+    with open(counts.path, "rb") as file:
+        octets = FORMS[form](read(file.read().decode("ascii")), how).encode("ascii")
+    out.write(octets)
+    return hashlib.sha256(octets).hexdigest()
 
 
 def is_moment(text):
