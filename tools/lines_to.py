@@ -80,7 +80,7 @@ class Counts(collections.namedtuple("Counts", "path origins customers causes loc
         """The origins or the customers of the file, one after another: `kind` is Origin or Customer."""
         start = b"roa " if kind is Origin else b"aspa "
         with open(self.path, "rb") as file:
-            yield from (parsed(octets) for octets in file if octets.startswith(start))
+            yield from (known(octets) for octets in file if octets.startswith(start))
 
 
 def number(text):
@@ -118,6 +118,14 @@ def parsed(octets):
     if found := REFUSAL.fullmatch(line):
         return Refusal(*found.groups())
     raise BadLine(line)
+
+
+def known(octets):
+    """What a line says that was read before and is no refusal."""
+    kind, asn, *rest = octets.decode("ascii").split()
+    if kind == "roa":
+        return Origin(int(asn[2:]), rest[0], int(rest[0].partition("/")[2]), int(rest[1]))
+    return Customer(int(asn[2:]), [int(text[2:]) for text in rest])
 
 
 def count(path):
