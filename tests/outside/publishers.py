@@ -261,8 +261,8 @@ class Room:
         """That the run ended so, and FILE is as it was."""
         with open(self.out) as file:
             self.tests.same(f"{name}: the status, and FILE", (done.returncode, file.read() == text), (status, True), done.stderr)
-        left = sorted(set(os.listdir(self.path("out"))) - {"routes.json", "routes.json.status.json"})
-        self.tests.same(f"{name}: nothing is left", left, [])
+        others = [one for one in os.listdir(self.path("out")) if one != "routes.json" and not one.startswith("routes.json.status.")]
+        self.tests.same(f"{name}: nothing but the status is left", others, [])
         for word in said:
             self.tests.same(f"{name}: says {word}", word in done.stderr, True, done.stderr)
 
