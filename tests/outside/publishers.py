@@ -503,8 +503,10 @@ def shared(room, is_many):
     world.publish().add(leaf)
     room.lay(world)
     room.stands()
-    done = room.run("--max-store-size", str(share))
-    room.gives("a store's share", done, WELL, world, ["max-store-size", leaf.at])
+    room.gives("a store's share", room.run("--max-store-size", str(share)), WELL, world, ["max-store-size", leaf.at])
+    with open(f"{room.out}.status.json") as file:
+        told = {row["authority"] for row in json.load(file)["left_out"] if "max-store-size" in row["why"]}
+    room.tests.same("a store's share: by whom", told, {leaf.at})
     room.stands()
     room.gives("within the share", room.run("--max-store-size", str(2 * count * size)), WELL, world)
 
