@@ -1,7 +1,9 @@
 #!/usr/bin/env python3
 """Asks tools/validate.py whether everybody else's lines come out, whatever one publisher or a careless operator does.
 
-    publishers.py PROGRAM ASKER [--many]      (crates/rpki_check/out/rpki_check and crates/rpki_ask/out/rpki_ask, or other builds)
+    publishers.py PROGRAM ASKER [--many] [--only WORD]
+
+PROGRAM and ASKER are crates/rpki_check/out/rpki_check and crates/rpki_ask/out/rpki_ask, or other builds of them.
 
 Three trust anchors have two members each with ROAs and ASPAs, and below the first anchor there is somebody who holds one
 certificate and a few addresses, and publishes what it likes:
@@ -13,7 +15,8 @@ certificate and a few addresses, and publishes what it likes:
   faults   a disk that is full, a Python without `cryptography`, memory that is short, a checker that fails
 
 Each time the others' origins and customers are compared with what was made, which is stated here, or FILE with what it was; and
-the exit status. With --many publishers are many and objects large, as large as anybody was found to make them.
+the exit status. With --many each way is tried in each layout, and objects are as many and as large as anybody was found to make
+them; --only takes the parts with the word in their name.
 
 Prints a line for each answer that isn't right, and `N passed, M failed`; exits with 1 where one failed.
 """
@@ -23,6 +26,7 @@ import base64
 import functools
 import hashlib
 import ipaddress
+import itertools
 import json
 import os
 import shutil
@@ -231,7 +235,7 @@ class Room:
     def run(self, *words, lacking="", cache=None, tals=None, moment=repository.MOMENT, programs=None):
         """A run of validate.py."""
         checker, asker = programs or self.programs
-        words = [cache or self.cache, "--tals", tals or self.tals, "--moment", moment, "--out", self.out, *words]
+        words = [cache or self.cache, "--tals", tals or self.tals, "--moment", moment, "--out", self.out, "--jobs", "1", *words]
         words += ["--checker", checker, "--asker", asker]
         how = {"env": {**os.environ, "PYTHONPATH": self.path("custom"), "LACKING": lacking}, "timeout": SECONDS}
         how |= {"capture_output": True, "text": True, "errors": "replace"}
@@ -290,12 +294,13 @@ def claimed(world, victim, notify=None, is_spelled=True):
     return leaf
 
 
-def letters(room):
-    """The host in other letters: a copy that is cut, one of a certificate that names it, files that its manifest lists."""
-    for layout in LAYOUTS:
-        for victim in (0, 1):
+def letters(room, is_many):
+    """The host in other letters: a copy that is cut, and one of a certificate that names it; of an anchor's manifest, or of one
+    below."""
+    for at, layout in enumerate(LAYOUTS):
+        for place in ("anchors", "others") if is_many else (("anchors", "others")[at % 2],):
             world = World()
-            it = (world.anchors[0], world.others[0])[victim]
+            it = getattr(world, place)[0]
             world.publish()
             manifest = f"{it.folder}{it.name}.mft"
             world.objects[None, spelled(manifest)] = world.objects[None, manifest][:-100]
@@ -303,7 +308,7 @@ def letters(room):
             room.stands()
             room.gives(f"{layout}, a cut copy of {it.name}'s manifest", room.run("--layout", layout), WELL, world)
             world = World()
-            it = (world.anchors[0], world.others[0])[victim]
+            it = getattr(world, place)[0]
             leaf = claimed(world, it)
             world.publish().add(leaf)
             room.lay(world, layout)
@@ -326,17 +331,17 @@ def files(room):
     room.gives("files that its manifest lists", done, done.returncode, world)
 
 
-def servers(room):
-    """Files under other people's URIs in the folder of its own RRDP server: cut, old, and signed by itself."""
+def servers(room, is_many):
+    """Files under other people's URIs in the folder of its own RRDP server: cut, old, and signed by itself. The folder's name
+    stands in front of others, or behind them."""
     names = [f"https://a{number}.example/n.xml" for number in range(40)]
-    first = min(names, key=digest_of)
-    last = max(names, key=digest_of)
-    for layout in APART:
-        for notify in (NOTIFY, None):
-            for server in (first, last):
-                what = f"{layout}, {'RRDP' if notify else 'rsync'}, {'before' if server == first else 'behind'}"
-                of_others(room, layout, notify, server, what)
-                of_itself(room, layout, notify, server, what)
+    first, last = min(names, key=digest_of), max(names, key=digest_of)
+    ways = list(itertools.product((NOTIFY, None), (first, last)))
+    for at, layout in enumerate(APART):
+        for notify, server in ways if is_many else (ways[at],):
+            what = f"{layout}, {'RRDP' if notify else 'rsync'}, {'before' if server == first else 'behind'}"
+            of_others(room, layout, notify, server, what)
+            of_itself(room, layout, notify, server, what)
 
 
 def of_others(room, layout, notify, server, what):
@@ -403,18 +408,18 @@ def example(room):
     room.tests.same("the example", (done.returncode, rows[0]), (WELL, rows[1]), done.stderr)
 
 
-def copies(room):
+def copies(room, is_many):
     example(room)
-    letters(room)
+    letters(room, is_many)
     files(room)
-    servers(room)
+    servers(room, is_many)
     known(room)
 
 
 # Guards.
 
 
-def guards(room):
+def guards(room, is_many):
     """What is missing keeps FILE as it was."""
     world = room.lay(World().publish())
     text = room.stands(world)
@@ -519,12 +524,12 @@ def sizes(room, is_many):
 # Faults.
 
 
-def faults(room):
+def faults(room, is_many):
     """What is missing on the machine: FILE is as it was, with a status and a message of its own."""
     world = room.lay(World().publish())
     text = room.stands(world)
     for count in (0, 3, 12):
-        done = room.run("--jobs", "1", lacking=f"verdicts.py {count}")
+        done = room.run(lacking=f"verdicts.py {count}")
         room.stays(f"a full disk after {count} files", done, FULL, text, ["disk is full"])
     room.stays("no cryptography", room.run(lacking="cryptography"), FAULT, text, ["python3-cryptography"])
     done = room.run("--memory-limit", "4")
@@ -548,15 +553,14 @@ def main():
     parser = argparse.ArgumentParser(description=__doc__, formatter_class=argparse.RawDescriptionHelpFormatter)
     parser.add_argument("program")
     parser.add_argument("asker")
-    parser.add_argument("--many", action="store_true", help="many publishers, and large objects")
+    parser.add_argument("--many", action="store_true", help="all ways in all layouts, and large objects")
     parser.add_argument("--only", default="", metavar="WORD", help="only the part of that name")
     given = parser.parse_args()
     tests, programs = Tests(), [os.path.abspath(path) for path in (given.program, given.asker)]
-    parts = {"copies": copies, "guards": guards, "faults": faults, "sizes": lambda room: sizes(room, given.many)}
-    for name, part in parts.items():
-        if given.only in name:
+    for part in (copies, guards, faults, sizes):
+        if given.only in part.__name__:
             with tempfile.TemporaryDirectory() as folder:
-                part(Room(folder, tests, programs))
+                part(Room(folder, tests, programs), given.many)
     print(f"{tests.passed} passed, {tests.failed} failed")
     return 1 if tests.failed else 0
 
