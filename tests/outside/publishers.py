@@ -52,6 +52,8 @@ SHARED, HOST = "rpki.example", "rsync://rpki.example/"
 # The same host to whoever looks it up, in a spelling that sorts first.
 SPELLED = "RPKI.EXAMPLE"
 NOTIFY = "https://rrdp.example/notification.xml"
+# Since when the attacker's certificate is valid, beside others', where it is newer than these, or older.
+NEWER, OLDER = "20240601000000Z", "20230101000000Z"
 OLD = json.dumps({"roas": [], "metadata": {"note": "the file that stood there"}}) + "\n"
 # Of the first anchor's numbers the attacker holds these.
 ITS_NETWORKS = [ipaddress.ip_network("10.255.0.0/16"), ipaddress.ip_network("2001:db8:ff00::/40")]
@@ -100,11 +102,11 @@ def key(name):
 
 class Publisher(Authority):
     """An authority: where it publishes, by which name, and the notification file of its RRDP server, where it has one. `cert` is the
-    name of its certificate's file."""
+    name of its certificate's file, and `first` since when that is valid."""
 
-    def __init__(self, name, held, parent=None, notify=None, folder=None, cert=None):
+    def __init__(self, name, held, parent=None, notify=None, folder=None, cert=None, first=repository.NOT_BEFORE):
         super().__init__(name, key(cert or name), held, parent)
-        self.notify, self.cert = notify, f"{cert or name}.cer"
+        self.notify, self.cert, self.first = notify, f"{cert or name}.cer", first
         self.folder = folder or f"{HOST}repository/{name}/"
         self.at = (parent.folder if parent else f"{HOST}ta/") + self.cert
 
@@ -114,6 +116,14 @@ class Publisher(Authority):
         places += [("13", self.notify)] if self.notify else []
         rows = (sequence(oid("1.3.6.1.5.5.7.48." + kind), uri(place)) for kind, place in places)
         return extension("1.3.6.1.5.5.7.1.11", sequence(*rows))
+
+    def own_cert(self):
+        before = repository.NOT_BEFORE
+        repository.NOT_BEFORE = self.first
+        try:
+            return super().own_cert()
+        finally:
+            repository.NOT_BEFORE = before
 
     def certified(self):
         """Puts its certificate among its parent's files."""
@@ -147,9 +157,9 @@ class World:
         self.others.append(member.certified())
 
     def attacker(self, **how):
-        """Somebody below the first anchor, who signs by its own key."""
+        """Somebody below the first anchor, who signs by its own key; its certificate is newer than others', if nothing else is said."""
         held = Held(ITS_NETWORKS, [(ITS_AS, ITS_AS)])
-        return Publisher(**{"name": "leaf", "cert": "leaf", **how}, held=held, parent=self.anchors[0])
+        return Publisher(**{"name": "leaf", "cert": "leaf", "first": NEWER, **how}, held=held, parent=self.anchors[0])
 
     def add(self, publisher, notify=None):
         """Lays what it publishes in its store."""
@@ -186,9 +196,15 @@ def of_routinator(store, host, path):
     return f"store/{server or ''}rsync/{host}/{path}"
 
 
+def of_fort_by_numbers(store, host, path):
+    """As FORT names folders by numbers, which don't tell whose they are."""
+    return f"rrdp/{'bb' if store == NOTIFY else 'aa'}/{host}/{path}" if store else f"rsync/{host}/{path}"
+
+
 LAYOUTS = {"plain": plain, "rpki-client": of_rpki_client, "fort": of_fort, "routinator": of_routinator}
 # Of these each server has folders of its own.
-APART = ("rpki-client", "fort", "routinator")
+APART = {**LAYOUTS, "fort by numbers": of_fort_by_numbers}
+del APART["plain"]
 
 
 class Room:
@@ -221,7 +237,8 @@ class Room:
 
     def lay_one(self, store, place, octets, layout="plain"):
         host, _, path = place.removeprefix("rsync://").partition("/")
-        self.write(os.path.join("cache", LAYOUTS[layout](store, host, path)), octets)
+        place = (LAYOUTS | APART)[layout]
+        self.write(os.path.join("cache", place(store, host, path)), octets)
 
     def stands(self, world=None):
         """FILE as it was before: nothing of interest, or what the world means."""
@@ -285,11 +302,11 @@ def spelled(place):
     return place.replace(SHARED, SPELLED)
 
 
-def claimed(world, victim, notify=None, is_spelled=True):
+def claimed(world, victim, is_spelled=True, **how):
     """A certificate that names the victim's manifest as its own, with all that it publishes there; `is_spelled` in other
     letters."""
     folder = spelled(victim.folder) if is_spelled else victim.folder
-    leaf = world.attacker(name=victim.name, folder=folder, notify=notify).certified()
+    leaf = world.attacker(name=victim.name, folder=folder, **how).certified()
     leaf.add_origin("its.roa", key("ee"), ITS_AS, ITS_NETWORKS[0])
     return leaf
 
@@ -306,14 +323,14 @@ def letters(room, is_many):
             world.objects[None, spelled(manifest)] = world.objects[None, manifest][:-100]
             room.lay(world, layout)
             room.stands()
-            room.gives(f"{layout}, a cut copy of {it.name}'s manifest", room.run("--layout", layout), WELL, world)
+            room.gives(f"{layout}, a cut copy of {it.name}'s manifest", room.run("--layout", layout.split()[0]), WELL, world)
             world = World()
             it = getattr(world, place)[0]
             leaf = claimed(world, it)
             world.publish().add(leaf)
             room.lay(world, layout)
             room.stands()
-            done = room.run("--layout", layout)
+            done = room.run("--layout", layout.split()[0])
             room.gives(f"{layout}, a certificate that names {it.name}'s manifest", done, PARTED, world, [it.at, leaf.at])
 
 
@@ -356,7 +373,7 @@ def of_others(room, layout, notify, server, what):
         world.objects[server, manifest] = octets
         room.lay(world, layout)
         room.stands()
-        room.gives(f"{what}: a manifest that is {name}", room.run("--layout", layout), WELL, world)
+        room.gives(f"{what}: a manifest that is {name}", room.run("--layout", layout.split()[0]), WELL, world)
 
 
 def of_itself(room, layout, notify, server, what):
@@ -367,27 +384,27 @@ def of_itself(room, layout, notify, server, what):
     world.publish().add(leaf)
     room.lay(world, layout)
     room.stands()
-    room.gives(f"{what}: a manifest of its own", room.run("--layout", layout), PARTED, world, [it.at, leaf.at])
+    room.gives(f"{what}: a manifest of its own", room.run("--layout", layout.split()[0]), PARTED, world, [it.at, leaf.at])
 
 
 def known(room):
-    """Who had the URI in the run before keeps it, whoever comes with the better right by its host; both are told, in the
-    evidence and in FILE, too."""
+    """Who had the URI in the run before keeps it, though another's certificate is older; both are told, in the evidence and in FILE,
+    too."""
     kept = room.path("kept")
     world = room.lay(World().publish())
     room.stands()
     room.gives("before", room.run("--keep", kept), WELL, world)
     world = World()
-    leaf = claimed(world, world.anchors[0])
+    it = world.others[0]
+    leaf = claimed(world, it, first=OLDER)
     world.publish().add(leaf)
     room.lay(world)
-    done = room.run("--keep", kept, "--known", kept)
-    room.gives("known", done, PARTED, world, [leaf.at])
-    with open(os.path.join(kept, "summary.json")) as file:
-        room.tests.same("the summary names both", [one in file.read() for one in (leaf.at,)], [True])
-    with open(room.out) as file:
-        room.tests.same("metadata names it", leaf.at in json.dumps(json.load(file)["metadata"]), True)
-    shutil.rmtree(kept)
+    room.gives("known", room.run("--keep", kept, "--known", kept), PARTED, world, [it.at, leaf.at])
+    for name, path in (("the summary", os.path.join(kept, "summary.json")), ("FILE", room.out)):
+        with open(path) as file:
+            told = json.load(file)
+        rows = told.get("contested") or told["metadata"]["contested"]
+        room.tests.same(f"{name} names both", [one in json.dumps(rows) for one in (it.at, leaf.at)], [True, True])
 
 
 def example(room):
