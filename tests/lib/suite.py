@@ -102,6 +102,7 @@ TESTS = (
     Test("validating", "outside/validating.py {rpki_check}", 0, 900, needs=("cryptography",)),
     Test("publishers", "outside/publishers.py {rpki_check} {rpki_ask}", 400, 3600, needs=("cryptography",), more="--many"),
     Test("exceptions", "outside/exceptions.py", 300, 600, less="200", more="5000"),
+    Test("guarding", "outside/guarding.py", 500, 1200, less="--quick"),
     Test("crowded", "outside/crowded.py", 400, needs=("cryptography",)),
     Test("routers", "outside/routers.py {rpki_check} {rpki_ask}", 0, 900, needs=("cryptography",)),
     Test("large", "outside/large.py {rpki_check} {rpki_ask} {questions}", 500, 1800, more="--huge", least="--small"),
