@@ -10,7 +10,8 @@ authority of a row certifies all of the next row, so that many chains end alike:
 each certificate is asked of small ones, and of 2^32 with a limit. 70 URIs of 70
 authorities are asked what they reach, together, and which chains name them; and once 69 that nobody names, with one that is
 named. Bundles have some octets in large files that manifests list: 17 MB, with --huge 64 and 200 MB, too, and with --small
-2 MB. tools/lines_to.py and tools/slurm.py are measured over many lines: an origin more takes 100 octets of memory at most. All answers are stated here, but of small lattices in which a key is certified again below: these are those of the second
+2 MB. tools/lines_to.py and tools/slurm.py are measured over many lines: an origin more takes 100 octets of memory at most.
+All answers are stated here, but of small lattices in which a key is certified again below: these are those of the second
 reading (`rpki_model`).
 
 Prints a line for each answer that isn't right, and `N passed, M failed`; exits with 1 where one failed.
@@ -38,6 +39,14 @@ MANY = 70
 TOOLS = os.path.join(os.path.dirname(os.path.abspath(__file__)), os.pardir, os.pardir, "tools")
 # So many origins there are before and after, and so many octets of memory one more may take.
 ORIGINS, MOST_OCTETS = (20_000, 200_000), 100
+# Runs a program and prints its memory in KiB. (The system counts what its parent had before, so that has to be small.)
+MEASURED = """
+import os, subprocess, sys
+run = subprocess.Popen(sys.argv[1:], stdout=subprocess.DEVNULL, stderr=subprocess.DEVNULL)
+_, status, used = os.wait4(run.pid, 0)
+print(used.ru_maxrss)
+sys.exit(status != 0)
+"""
 # Exceptions that match some and add one.
 RULES = """{
   "slurmVersion": 1,
@@ -265,10 +274,8 @@ def written_lines(path, count):
 def most_memory(words, path):
     """The most octets of memory that a program has over a file."""
     with open(path, "rb") as lines:
-        run = subprocess.Popen([sys.executable, *words], stdin=lines, stdout=subprocess.DEVNULL, stderr=subprocess.DEVNULL)
-    _, status, used = os.wait4(run.pid, 0)
-    run.returncode = os.waitstatus_to_exitcode(status)
-    return used.ru_maxrss * 1024 if run.returncode == 0 else None
+        done = subprocess.run([sys.executable, "-c", MEASURED, sys.executable, *words], stdin=lines, stdout=subprocess.PIPE)
+    return int(done.stdout) * 1024 if done.returncode == 0 else None
 
 
 def memory(tests, counts):
