@@ -232,7 +232,8 @@ def lists(outcome, work):
                 yield piece
             yield "\n" if not file.read(1) else "..\n\n"
     slurm = outcome.slurm or {}
-    for title, rows in (("contested", outcome.report.get("contested")), *((name, slurm.get(name)) for name in ("filters", "assertions"))):
+    told = {"contested": outcome.report.get("contested"), "filters": slurm.get("filters"), "assertions": slurm.get("assertions")}
+    for title, rows in told.items():
         if rows:
             yield f"# {title}\n"
             yield from (f"{json.dumps(one)}\n" for one in rows)
@@ -253,8 +254,8 @@ def read_earlier(path):
     try:
         with open(path) as file:
             found = json.load(file)["standing"]
-        numbers = [found, *(found["anchors"] or {}).values()]
-        is_sound = lines_to.is_moment(found["moment"]) and all(isinstance(row[name], int) for row in numbers for name in ("origins", "customers"))
+        numbers = [row[name] for row in (found, *(found["anchors"] or {}).values()) for name in ("origins", "customers")]
+        is_sound = lines_to.is_moment(found["moment"]) and all(isinstance(one, int) for one in numbers)
     except (OSError, ValueError, KeyError, TypeError, AttributeError):
         return None
     return found if is_sound else None

@@ -175,7 +175,8 @@ class Run:
             without = ", without what was left out" if told.status != WELL else ""
             forced = ", by --force" if told.guards else ""
             return self.log.tell(f"{names} {verb} new{without}{forced}", "warning" if without or forced else "info")
-        return self.log.tell(f"status {told.status}: {told.why}; {names} {verb} as {'they were' if verb == 'are' else 'it was'}", "error")
+        before = "they were" if verb == "are" else "it was"
+        return self.log.tell(f"status {told.status}: {told.why}; {names} {verb} as {before}", "error")
 
     def leave_lists(self):
         if self.evidence is None:
@@ -197,10 +198,10 @@ class Run:
             self.evidence.keep_apart(self.told.as_dict(self.steps), self.told.status in NEW)
 
     def leave_status(self):
-        self.guarded("the status", lambda: write_at_once(self.given.status, [json.dumps(self.told.as_dict(self.steps), indent=2), "\n"]))
-        if self.given.metrics:
-            path = os.path.abspath(self.given.metrics)
-            self.guarded("the metrics", lambda: write_at_once(path, [metrics.text(self.told.as_dict(self.steps))]))
+        given, told = self.given, lambda: self.told.as_dict(self.steps)
+        self.guarded("the status", lambda: write_at_once(given.status, [json.dumps(told(), indent=2), "\n"]))
+        if given.metrics:
+            self.guarded("the metrics", lambda: write_at_once(os.path.abspath(given.metrics), [metrics.text(told())]))
 
     def guarded(self, what, deed):
         """Does what the files don't depend on; where it fails, that is told."""

@@ -220,8 +220,8 @@ def faults(room):
         room.ends(f"verdicts.py ends with {status}", wanted, deed=f"ends {status}", wanted=("told why",))
     no_room = "OSError(28, 'No space left on device')"
     for what, name in (("the form", "lines_to.write"), ("the guards", "guards.gone_from"), ("publishing", "places.keep_rights")):
-        for fault, status, said in ((no_room, 9, "the disk is full"), ("MemoryError", 8, "memory is short"),
-                                    ("KeyError('x')", 1, "a fault of the tool itself")):
+        for fault, status, said in ((no_room, 9, "the disk is full"), ("MemoryError", 8, "out of memory"),
+                                    ("KeyError('x')", 1, "a fault of this program: KeyError")):
             change = f"def deed(*_):\n  raise {fault}\n{name} = deed"
             room.ends(f"{what}: {fault}", status, change=change, wanted=(said,))
     room.ends("a full disk at bundle", 9, fake="bundle fails", change="course.is_full = lambda _: True", wanted=("the disk is full",))
