@@ -33,10 +33,10 @@ def gone_from(given, counts, work):
         if not os.path.lexists(out.path):
             continue
         try:
-            before, lost = standing.gone(out.path, counts.path, work.folder, work.path("gone"))
+            before, lost, share = standing.gone(out.path, counts.path, work.folder, work.path("gone"))
         except (routes.BadRoutes, ValueError) as why:
             return {"file": out.path, "unknown": str(why)}
-        return {"file": out.path, "before": before, "gone": lost, "first": first_of(work.path("gone"))}
+        return {"file": out.path, "before": before, "gone": lost, "share": share, "first": first_of(work.path("gone"))}
     return None
 
 
@@ -47,7 +47,7 @@ def first_of(path):
 
 def is_dropped(drop, percent):
     """Whether more of the origins are gone than the operator says."""
-    return bool(percent and drop and drop.get("gone") and 100 * drop["gone"] > percent * drop["before"])
+    return bool(percent and drop and drop.get("share", 0) > percent)
 
 
 def failing(given, proved, drop, report):
@@ -57,8 +57,7 @@ def failing(given, proved, drop, report):
     if proved.origins < given.min_origins:
         yield {"guard": "min-origins", "why": f"there are {proved.origins:,} origins, and {given.min_origins:,} are wanted at least"}
     if is_dropped(drop, given.max_drop):
-        share = 100 * drop["gone"] / drop["before"]
-        why = f"{drop['gone']:,} of the {drop['before']:,} origins of {drop['file']} are gone ({share:.1f} %), "
+        why = f"{drop['gone']:,} of the {drop['before']:,} origins of {drop['file']} are gone ({drop['share']:.1f} %), "
         yield {"guard": "max-drop", "why": f"{why}and at most {given.max_drop} % may be"}
 
 

@@ -3,6 +3,10 @@
 The file is read row by row, in each form that lines_to.py writes; where that isn't all of it, and of other validators'
 files, it is read whole, as routes.py reads it. Origins are compared in order, by files of sorted rows, so that memory
 doesn't grow with them.
+
+Who holds a few addresses may attest millions of origins below them, and withdraw these again. So that this doesn't look as if
+routes had collapsed, of each /16 of IPv4 and each /32 of IPv6 so many origins count at most, and of those that are gone the
+same share.
 """
 
 import heapq
@@ -16,6 +20,8 @@ import routes
 
 # An origin as octets that have its order: version, address, length, greatest length, AS number.
 KEY = 1 + 16 + 1 + 1 + 4
+# So many count of a block.
+MOST_IN_BLOCK = 256
 # So many are sorted at a time.
 ROWS = 100_000
 JSON_ROW = re.compile(rb'\s*\{ "asn": (?:"?AS)?([0-9]+)"?, "prefix": "([0-9a-f.:]+)/([0-9]+)", "maxLength": ([0-9]+)[ ,]')
@@ -135,19 +141,52 @@ def sorted_origins(path, folder):
         return Sorted(map(key_of_origin, routes.read(path).origins), folder, "before")
 
 
-def gone(file, lines, folder, told):
-    """How many origins a file has, and how many of them the lines have no longer, which are written to the path `told`."""
-    before, after = sorted_origins(file, folder), Sorted(origins_of_lines(lines), folder, "after")
-    count, lost, rest = 0, 0, iter(after)
+def block_of(key):
+    """The /16 of IPv4 or /32 of IPv6 of an origin's prefix."""
+    return key[: 3 if key[0] == 4 else 5]
+
+
+def compared(before, after):
+    """Each of the first origins, and whether the second lack it; both are in order."""
+    rest = iter(after)
     there = next(rest, None)
+    for key in before:
+        while there is not None and there < key:
+            there = next(rest, None)
+        yield key, there != key
+
+
+class Gone:
+    """How many origins there were, how many of them are gone, and how many of both count."""
+
+    def __init__(self):
+        self.before, self.lost, self.counting, self.lacking = 0, 0, 0, 0
+
+    def add(self, count, lost):
+        """Adds a block's."""
+        self.before, self.lost = self.before + count, self.lost + lost
+        self.counting += min(count, MOST_IN_BLOCK)
+        self.lacking += lost * min(count, MOST_IN_BLOCK) / count
+
+    def share(self):
+        """How many are gone, in per cent."""
+        return 100 * self.lacking / self.counting if self.counting else 0
+
+
+def gone(file, lines, folder, told):
+    """How many origins a file has, how many of them the lines have no longer, and which share that is, in per cent; those that
+    are gone are written to the path `told`."""
+    before, after = sorted_origins(file, folder), Sorted(origins_of_lines(lines), folder, "after")
+    found = Gone()
     with open(told, "w") as out:
-        for key in before:
-            count += 1
-            while there is not None and there < key:
-                there = next(rest, None)
-            if there != key:
-                lost += 1
-                out.write(f"{text_of(key)}\n")
+        for _, rows in itertools.groupby(compared(before, after), lambda row: block_of(row[0])):
+            count = lost = 0
+            for key, is_gone in rows:
+                count += 1
+                if is_gone:
+                    lost += 1
+                    out.write(f"{text_of(key)}\n")
+            found.add(count, lost)
     before.remove()
     after.remove()
-    return count, lost
+    return found.before, found.lost, found.share()

@@ -172,6 +172,25 @@ def many(room):
                    wanted=("25,000 of the 250,000 origins",))
 
 
+def withdrawn(room):
+    """Whoever attests many origins below a few addresses, and withdraws them, doesn't keep the file from being replaced: of a /16 and
+    of a /32 at most 256 count."""
+    others = [f"roa AS64500 10.{at}.0.0/16 16\n" for at in range(60)]
+    for what, many, counts in (
+        ("a /16", [f"roa AS{at} 192.0.2.0/24 24\n" for at in range(1, 2001)], 256),
+        ("a /32", [f"roa AS{at} 2001:db8::/48 48\n" for at in range(1, 2001)], 256),
+        ("two of a /31", [f"roa AS{at} 2001:{block}::/48 48\n" for block in ("db8", "db9") for at in range(1, 2001)], 512),
+        ("a few", [f"roa AS{at} 192.0.2.0/24 24\n" for at in range(1, 101)], 100),
+    ):
+        for left in (0, len(many) // 2):
+            room.go("--force", lines="".join(many + others))
+            before = read(room.out)
+            # (of those below the few addresses the share that is gone counts)
+            share = 100 * (counts * (1 - left / len(many))) / (counts + len(others))
+            for percent, status in ((int(share), 7), (int(share) + 1, 0)):
+                room.ends_over(f"{what}, {left} left, {percent} %", before, status, "--max-drop", str(percent), lines="".join(many[:left] + others))
+
+
 def by_anchor(room):
     """Origins by trust anchor, and below which of them origins are missing."""
     world = World()
@@ -471,7 +490,7 @@ def programs(room):
 
 
 QUICK = (anchors_and_origins, by_anchor, contested, outs, slurm, status_files)
-SLOW = (drops, lists, odd_status, evidence, logs, owners, moments, programs, many, limits, faults, full)
+SLOW = (drops, withdrawn, lists, odd_status, evidence, logs, owners, moments, programs, many, limits, faults, full)
 
 
 def main():
