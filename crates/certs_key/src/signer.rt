@@ -36,10 +36,10 @@ pub enum SigningError<E> {
 
 /// Keys that sign, by names of the signer's own.
 ///
-/// `has_key` and `signs` are relations, so a signer may sign one message in more than one way. `refuses_key`, `refuses` and
-/// `refuses_once` tell by which errors it may refuse a key and a message, so that an error which is handed on is known to
-/// come from it, and of what. No signer answers `TooLong`, which is told of what is to be signed, before the signer is asked.
-/// The unused bits of the keys that it tells are zero, as DER has them (X.690 11.2.1).
+/// `has_key` and `signs` are relations, so a signer may sign one message in more than one way. `refuses` tells by which
+/// errors it may refuse, so that an error which is handed on is known to come from it. No signer answers `TooLong`, which is
+/// told of what is to be signed, before the signer is asked. The unused bits of the keys that it tells are zero, as DER has
+/// them (X.690 11.2.1).
 pub trait Signer {
     /// By what a key is named.
     type KeyId;
@@ -56,14 +56,8 @@ pub trait Signer {
     // Which octets may be a signature of a message by a key that is made for it alone.
     ghost signs_once: { Self → KeyValue → List ℕ → List ℕ → Type 0 };
 
-    // By which errors it may refuse to tell the public key of a name.
-    ghost refuses_key: { Self → Self.KeyId → Refusal Self.Error → Type 0 };
-
-    // By which errors it may refuse a signature of a message by the key of a name.
-    ghost refuses: { Self → Self.KeyId → List ℕ → Refusal Self.Error → Type 0 };
-
-    // By which errors it may refuse a signature of a message by a key that is made for it alone.
-    ghost refuses_once: { Self → List ℕ → Refusal Self.Error → Type 0 };
+    // By which errors it may refuse.
+    ghost refuses: { Self → Refusal Self.Error → Type 0 };
 
     /// The public part of that key.
     fn get_key_info(
@@ -74,7 +68,7 @@ pub trait Signer {
         ensures key { IfOk result (λ public. has_key self.now key.now public) }
         ensures padded { IfOk result (λ public. IsPadded Der public.bits) }
         ensures told { IfErr result (λ e. e ≢ TooLong) }
-        ensures refused { IfErr result (λ e. refuses_key self.now key.now e) };
+        ensures refused { IfErr result (λ e. refuses self.now e) };
 
     /// A signature of the message by that key and algorithm.
     fn sign<A: SignatureAlgorithm + Drop>(
@@ -88,7 +82,7 @@ pub trait Signer {
         ensures signed { IfOk result
             (λ signature. signs self.now key.now message.now signature.bits.octets) }
         ensures told { IfErr result (λ e. e ≢ TooLong) }
-        ensures refused { IfErr result (λ e. refuses self.now key.now message.now e) };
+        ensures refused { IfErr result (λ e. refuses self.now e) };
 
     /// A signature of the message by a key that is made for it alone, and that key.
     fn sign_one_off<A: SignatureAlgorithm + Drop>(
@@ -102,5 +96,5 @@ pub trait Signer {
             (λ made. signs_once self.now made.1 message.now made.0.bits.octets) }
         ensures padded { IfOk result (λ made. IsPadded Der made.1.bits) }
         ensures told { IfErr result (λ e. e ≢ TooLong) }
-        ensures refused { IfErr result (λ e. refuses_once self.now message.now e) };
+        ensures refused { IfErr result (λ e. refuses self.now e) };
 }

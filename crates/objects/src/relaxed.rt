@@ -4,16 +4,7 @@
 //! Contents are in DER in either mode. A value that is read keeps no mode but in its certificate: what is signed there, and
 //! two names, are kept as octets with the mode in which they stand.
 
-ghost use Rattle.objects_payload.specs.RelaxedLaws.{Stays, StaysAlone};
-ghost use Rattle.objects.specs.Checklists.{ChecklistText};
-
 pub use objects_payload::relaxed::{
     aspas_stay, forms_are_kept, inspection_answers_alike, manifests_stay, names_and_certs_stay,
     objects_stay, roas_stay, soundness_is_alike,
 };
-
-/// What is read strictly as a signed checklist is read relaxed, with the same fields and content, and as nothing else.
-pub fn checklists_stay()
-    ensures stay { Stays ChecklistText }
-    ensures alone { StaysAlone ChecklistText }
-{}
