@@ -132,7 +132,7 @@ def killed(room, old, new, all_steps, before=None):
             shutil.rmtree(room.out)
             shutil.copytree(kept, room.out)
             status = quiet_run(room, new, kill_at(step, who), "--replace", "--jobs", "1", before=before)
-            if who == "helper" and status != 1 or who == "run" and status not in (-signal.SIGKILL, 0):
+            if who == "helper" and status not in (1, 8) or who == "run" and status not in (-signal.SIGKILL, 0):
                 sys.exit(f"{what}: {who} at step {step}: status {status}")
             judge(room, f"{what}: {who} at step {step} of {count}", status, wanted, before)
             met += 1
