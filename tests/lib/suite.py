@@ -84,6 +84,8 @@ TESTS = (
     Test("growing", "tools/growing.py", 300),
     # Errors of which no clause says anything have a reason.
     Test("error sides", "tools/error_sides.py", 300),
+    # Each wrong body was tried since its function changed.
+    Test("edits tried", "tools/edits.py --list", 0, 300),
     # Stored questions.
     *(Test(f"stored {name}", f"outside/stored.py {name} {{{name}}}", at, 300, is_gates=True) for name, at in STORED.items()),
     # The built program, from outside.

@@ -2,28 +2,31 @@
 """Tries wrong bodies of crates, at the gate and beside it: the check must refuse each.
 
     edits.py [--in FOLDER] [--stale] [--built] CRATE[/NAME]..
-    edits.py --list
+    edits.py --list [CRATE..]
     edits.py --fits
 
 Of each crate the edits of crates/CRATE/must-fail and tests/edits/CRATE are tried, or the named one; with --stale only
-those that weren't tried at the present state of the crate. In FOLDER, or in a temporary folder, copies of the crate and
+those that weren't tried since their function changed. In FOLDER, or in a temporary folder, copies of the crate and
 of those below it are made, with their out/. The crate has to be proved as it stands. Then edits of different functions
 are applied together, a few at a time, and these functions alone are checked, with those that they call; the check names
 each one that has no proof. An edit that isn't refused so, since another function refuses it, or since one that its own
 function calls was refused, is tried again alone by a check of the whole crate.
 
-A line says of each whether it was refused. tests/edits/TRIED.tsv keeps what was tried at which state of the crate (a
-digest of its sources, specs and proofs and of the edit, as far as they aren't comments, say nothing of where a name
-stands and aren't laid out by the formatter); with --built the crate's library is there, built from the text as it stands, and is taken as proved, so that
-only the functions of edits are checked, and what none of them refuses isn't tried. --list prints the edits that it doesn't have so. --fits checks nothing, and prints the edits that can't be
-applied, since a text of theirs doesn't stand in its file just once. Exits with 1 where an edit wasn't refused or can't be
-applied.
+A line says of each whether it was refused. tests/edits/TRIED.tsv keeps what was tried, each with a digest of the edit and of
+the functions that it turns: their contracts and bodies as they stood, without comments and the formatter's layout, and
+without the crates and modules in paths. The definitions that a contract names and the functions that a body calls aren't
+in it. Of an edit outside functions it has the whole file.
+
+--list prints the edits that weren't tried since their function changed, or weren't refused, and exits with 1 where there are
+some. --fits checks nothing, and prints the edits that can't be applied, since a text of theirs doesn't stand in its file just
+once. With --built the crate's library is there, built from the text as it stands, and is taken as proved, so that only the
+functions of edits are checked, and what none of them refuses isn't tried. Otherwise exits with 1 where an edit wasn't refused
+or can't be applied.
 """
 
 import argparse
 import datetime
 import fcntl
-import functools
 import glob
 import hashlib
 import os
@@ -44,11 +47,10 @@ sys.path.insert(0, os.path.join(HERE, os.pardir, os.pardir, "bench"))
 import copies  # noqa: E402
 
 
-# What imports names or lists modules, what is only for readers, and a name by a path that begins at a crate.
-RUST_IMPORT = re.compile(r"^[ \t]*(?:pub(?:\([a-z]+\))? )?(?:ghost )?(?:use\b[^;]*|mod \w+);", re.MULTILINE)
+# What is only for readers, a name by a path that begins at a crate, and the head of a function.
 RUST_COMMENT = re.compile(r"^[ \t]*//.*$", re.MULTILINE)
 RUST_PATH = re.compile(r"(?<![\w:.])(?:crate|(?:bcder|resources|certs|objects|rpki)(?:_[a-z]+)*)((?:::\w+)+)")
-TERM_IMPORT = re.compile(r"^(?:(?:pub )?(?:use|mod) .*|--.*)$", re.MULTILINE)
+FUNCTION = re.compile(r'^(?P<margin> *)(?:pub(?:\([a-z]+\))? )?(?:(?:[a-z]+|"C") )*fn (?P<name>\w+)', re.MULTILINE)
 
 
 def read(path):
@@ -68,11 +70,13 @@ def rust_meaning(text):
     return re.sub(r",([)}\]>])", r"\1", re.sub(r"\s+", "", text))
 
 
-def meaning(path, text):
-    """The text of a file as far as it says more than where names stand."""
-    if path.endswith(".rt"):
-        return rust_meaning(RUST_IMPORT.sub("", text))
-    return re.sub(r"\n+", "\n", TERM_IMPORT.sub("", text)).strip()
+def function_at(text, at):
+    """The function of a text that has this place, with its contract, or the whole text where none has."""
+    heads = [head for head in FUNCTION.finditer(text) if head.start() <= at]
+    if not heads:
+        return text
+    end = re.compile(rf"^{heads[-1]['margin']}(?:\}}|\{{\}})$", re.MULTILINE).search(text, heads[-1].end())
+    return text[heads[-1].start() : end.end()] if end and at < end.end() else text
 
 
 class Edit:
@@ -130,23 +134,19 @@ class Edit:
         """The edit without the folders of its files."""
         return repr([(os.path.basename(file), rust_meaning(old), rust_meaning(new)) for file, old, new in self.pairs])
 
-    def state(self):
-        """A digest of the crate as it stands in the repository, and of the edit."""
-        parts = parts_of(os.path.join(copies.ROOT, "crates", self.crate))
-        return hashlib.sha256("\n".join([self.meaning(), *sorted(parts)]).encode()).hexdigest()[:16]
-
-
-@functools.cache
-def parts_of(crate):
-    """A digest of each file of a crate's sources, specs and proofs that says more than where names stand."""
-    found = []
-    for part in ("src", "specs", "proofs"):
-        for at, _, files in os.walk(os.path.join(crate, part)):
-            for name in files:
-                said = meaning(name, read(os.path.join(at, name)))
-                if said:
-                    found.append(hashlib.sha256(said.encode()).hexdigest())
-    return found
+    def state(self, folder=None):
+        """A digest of the edit and of the functions that it turns, as they stand in the folder of its crate, the repository's where
+        none is given; None where it can't be applied."""
+        folder = folder or os.path.join(copies.ROOT, "crates", self.crate)
+        if not self.applied({}, folder):
+            return None
+        turned = set()
+        for file, old, _ in self.pairs:
+            text = read(os.path.join(folder, file)) if os.path.exists(os.path.join(folder, file)) else ""
+            # (what an earlier pair writes isn't there; and a text may begin in front of the head of its function)
+            if old in text:
+                turned.add(rust_meaning(function_at(text, text.index(old) + len(old.rstrip()) - 1)))
+        return hashlib.sha256("\n".join([self.meaning(), *sorted(turned)]).encode()).hexdigest()[:16]
 
 
 def edits_of(crate, names):
@@ -163,15 +163,17 @@ def tried():
 
 
 def is_stale(edit, rows):
+    """Whether the edit wasn't tried since its function changed, or wasn't refused."""
     row = rows.get((edit.crate, edit.name))
     return row is None or row[0] != edit.state() or not row[2].startswith(REFUSED)
 
 
 def record(edit, answer):
-    """Writes an answer down, while no other run of this script does."""
+    """Writes an answer down, while no other run of this script does; rows of edits of its crate that are gone are dropped."""
     with open(TRIED, "a") as held:
         fcntl.flock(held, fcntl.LOCK_EX)
-        rows = tried()
+        names = {other.name for other in edits_of(edit.crate, [])}
+        rows = {key: row for key, row in tried().items() if key[0] != edit.crate or key[1] in names}
         rows[edit.crate, edit.name] = [edit.state(), str(datetime.date.today()), answer]
         write(TRIED, "".join("\t".join([*key, *row]) + "\n" for key, row in sorted(rows.items())))
 
@@ -326,8 +328,8 @@ def try_crate(folder, crate, edits, built):
 def main():
     parser = argparse.ArgumentParser(description="Tries wrong bodies, which the check must refuse.")
     parser.add_argument("--in", dest="folder", help="the folder for the copies")
-    parser.add_argument("--stale", action="store_true", help="only those that weren't tried at the present state")
-    parser.add_argument("--list", action="store_true", help="print those that weren't tried at the present state")
+    parser.add_argument("--stale", action="store_true", help="only those that weren't tried since their function changed")
+    parser.add_argument("--list", action="store_true", help="print those that weren't tried since their function changed")
     parser.add_argument("--built", action="store_true", help="take the crate as proved, and check functions of edits alone")
     parser.add_argument("--fits", action="store_true", help="print those that can't be applied, and check nothing")
     parser.add_argument("words", nargs="*", metavar="CRATE[/NAME]")
@@ -347,8 +349,9 @@ def main():
         print("\n".join([f"{edit.crate}/{edit.name}" for edit in lost] or ["all can be applied"]))
         sys.exit(1 if lost else 0)
     if given.list:
-        print("\n".join(f"{edit.crate}/{edit.name}" for found in edits.values() for edit in found))
-        return
+        lost = [edit for found in edits.values() for edit in found]
+        print("\n".join([f"{edit.crate}/{edit.name}" for edit in lost] or ["all were tried since their functions changed"]))
+        sys.exit(1 if lost else 0)
     with tempfile.TemporaryDirectory() as made:
         folder = given.folder or made
         failures = sum(try_crate(folder, crate, found, given.built) for crate, found in edits.items() if found)

@@ -112,6 +112,11 @@ pub on_ok : {T E P Q : Type 0} (r : Result T E) → (P → Q) → OnOk r P → O
 on_ok (Ok x) f h = f h
 on_ok (Err e) f h = tt
 
+-- What holds anyway.
+pub at_ok : {T E : Type 0} (r : Result T E) (Q : Type 0) → Q → OnOk r Q
+at_ok (Ok x) Q q = q
+at_ok (Err e) Q q = tt
+
 -- What the code reads of a locator, and what the walk gains by it.
 module _ {A : Type 0} (cert : A → Cert) (sets : A → Resources) (wants : Finding → Type 0) (uris : List (List ℕ)) (w : World) (l : Locator) (o : AnchorLookup A) (led : IsAnchorLookup cert sets w l o) where
   led_at : (p : AnchorLookup A) → o ≡ p → IsAnchorLookup cert sets w l p
