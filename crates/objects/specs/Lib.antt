@@ -1,14 +1,11 @@
-pub mod Again
 pub mod Attested
 pub mod ChecklistEntries
 pub mod Checklists
 pub mod Issued
 pub mod Lent
-pub mod Making
 pub mod ProcessedChecklists
 pub mod Providers
 pub mod Refusing
-pub mod Uris
 pub mod Written
 -- What stands below, for the crates above.
 pub use Rattle.certs.specs as certs

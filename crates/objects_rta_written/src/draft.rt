@@ -1,5 +1,6 @@
 //! Attestations that are signed by the holders of several keys, one after the other (RFC 5652 5.1, 5.3).
 
+ghost use Rattle.std.specs.Borrow.{sem};
 ghost use Rattle.std.specs.Prelude.{◌≡◌, ◌++◌, ◌∷◌, [], IfErr, IfOk, OnErr, OnOk};
 ghost use Rattle.objects_written.specs.certs_key.Digesting.{digests_of};
 ghost use Rattle.objects_written.specs.Refusing.{BuildRefused, CanTell};
@@ -11,6 +12,7 @@ ghost use Rattle.objects_written.specs.certs_key.declared.signer.SigningError.Th
 ghost use Rattle.objects_written.specs.objects_payload.ObjectText.{signer_of};
 ghost use Rattle.objects_rta.specs.objects_cms.Signer.{signer_fields};
 ghost use Rattle.objects_rta_written.specs.Contents.{AttestationRefused};
+ghost use Rattle.objects_rta_written.specs.Lending.{LendsCerts, LendsCrls, LendsSigners};
 
 mod signing;
 
@@ -122,6 +124,14 @@ impl RtaBuilder {
         self.certs.as_slice()
     }
 
+    /// Lends the certificates that will be carried, for a change.
+    pub fn certificates_mut(&mut self) -> &mut Vec<Cert>
+        ensures* lends { sem 𝓛 (LendsCerts self.entry result) }
+        ensures lent { result.now.items ≡ self.old.certs }
+    {
+        &mut self.certs
+    }
+
     /// One more revocation list to be carried. On an error nothing changes.
     pub fn push_crl(&mut self, crl: Crl) -> Result<(), AllocError>
         ensures ok { OnOk result
@@ -139,11 +149,27 @@ impl RtaBuilder {
         self.crls.as_slice()
     }
 
+    /// Lends the revocation lists that will be carried, for a change.
+    pub fn crls_mut(&mut self) -> &mut Vec<Crl>
+        ensures* lends { sem 𝓛 (LendsCrls self.entry result) }
+        ensures lent { result.now.items ≡ self.old.crls }
+    {
+        &mut self.crls
+    }
+
     /// The signers, in their order.
     pub fn signer_infos(&self) -> &[SignerInfo]
         ensures { signers_seen result.now ≡ self.now.signers }
     {
         self.signers.as_slice()
+    }
+
+    /// Lends the signers, for a change.
+    pub fn signer_infos_mut(&mut self) -> &mut Vec<SignerInfo>
+        ensures* lends { sem 𝓛 (LendsSigners self.entry result) }
+        ensures lent { signers_seen result.now.items ≡ self.old.signers }
+    {
+        &mut self.signers
     }
 
     /// One signer more, by that key of the signer, after the others: it signs attributes that tell the type of attestations, the
