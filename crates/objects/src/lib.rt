@@ -16,6 +16,7 @@
 //! | [`rta`] | resource tagged attestations, their validation and builders |
 //! | [`tal`] | trust anchor locators |
 //! | [`laws`] | what follows for objects and contents, as functions that do nothing |
+//! | [`relaxed`] | of these, that what is read strictly is read relaxed, with the same fields |
 //!
 //! A route origin attestation is read and processed like this:
 //!
@@ -41,6 +42,7 @@ mod attested;
 mod issued;
 pub mod laws;
 pub mod manifest;
+pub mod relaxed;
 pub mod roa;
 pub mod rsc;
 pub mod rta;

@@ -136,7 +136,7 @@ spelled_object_one {m} = record { one = at }
 pub one_object : (strict : Bool) (octets : List ℕ) (o o' : Object) → ObjectText strict octets o → ObjectText strict octets o' → o ≡ o'
 one_object strict = in_front_one spelled_object_one
 
-reads_as_one : {A : Type 0} {kind : List ℕ} {Q : Tree → A → Type 0} → One Q → (strict : Bool) (octets : List ℕ) (o o' : Object) (x x' : A) → ReadsAs kind Q strict octets o x → ReadsAs kind Q strict octets o' x' → (o ≡ o') × (x ≡ x')
+pub reads_as_one : {A : Type 0} {kind : List ℕ} {Q : Tree → A → Type 0} → One Q → (strict : Bool) (octets : List ℕ) (o o' : Object) (x x' : A) → ReadsAs kind Q strict octets o x → ReadsAs kind Q strict octets o' x' → (o ≡ o') × (x ≡ x')
 reads_as_one {Q = Q} one strict octets o o' x x' p q =
     let e = one_object strict octets o o' p.object q.object in
     (e, reads_one one o'.content x x' (subst (λ (z : Object). ReadsFront Q z.content x) e p.content_is) q.content_is)

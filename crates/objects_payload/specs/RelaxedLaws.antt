@@ -9,8 +9,8 @@ use Rattle.objects_payload.specs.certs_extension.declared.forms.Role.{Role}
 use Rattle.objects_payload.specs.certs_extension.CertText.{SpellsCert}
 use Rattle.objects_payload.specs.certs_extension.Profiles.{Profile}
 use Rattle.objects_payload.specs.ObjectText.{Object, ObjectText, Sound}
-use Rattle.rpki_rules.specs.Forms.{Carries}
-use Rattle.rpki_rules.specs.Relaxed.{relaxed, relaxed_cert, relaxed_name}
+use Rattle.objects_payload.specs.Forms.{Carries}
+use Rattle.objects_payload.specs.Relaxed.{relaxed, relaxed_cert, relaxed_name}
 
 -- Names and certificates by their octets: what spells one in DER spells it in BER.
 abbrev pub NamesStay : Type 0

@@ -16,8 +16,8 @@ ghost use Rattle.objects_payload.specs.ObjectText.{SpellsSigner};
 ghost use Rattle.objects_payload.specs.Manifests.{ManifestText};
 ghost use Rattle.objects_payload.specs.Roas.{RoaText};
 ghost use Rattle.objects_payload.specs.Aspas.{AspaText};
-ghost use Rattle.rpki_rules.specs.Forms.{KeepsInBer};
-ghost use Rattle.rpki_rules.specs.RelaxedLaws.{CertsStay, InspectedAlike, NamesAlike, NamesStay, ObjectsStay, ObjectsStayAlone, SoundAlike, Stays, StaysAlone};
+ghost use Rattle.objects_payload.specs.Forms.{KeepsInBer};
+ghost use Rattle.objects_payload.specs.RelaxedLaws.{CertsStay, InspectedAlike, NamesAlike, NamesStay, ObjectsStay, ObjectsStayAlone, SoundAlike, Stays, StaysAlone};
 
 /// What signed objects are made of means in BER what it means in DER: strings of octets under any tag, bit strings,
 /// BOOLEANs, extensions, keys, attributes and signers.

@@ -4,11 +4,11 @@ use Rattle.objects_payload.specs.bcder_tree.declared.mode.Mode.TheVariants.{Ber,
 use Rattle.objects_payload.specs.bcder_octets.Bits.{BitsValue}
 use Rattle.objects_payload.specs.certs_extension.Cert.{TbsValue}
 use Rattle.objects_payload.specs.certs_extension.CertText.{Fields, SaysTbs, SpellsFields, SpellsSigned, SpellsTbs}
-use Rattle.rpki_rules.specs.Forms.{Carries}
-use Rattle.rpki_rules.specs.Relaxed.{relaxed_cert, relaxed_name, relaxed_tbs}
-use Rattle.rpki_rules.specs.RelaxedLaws.{CertsStay, NamesStay}
-use Rattle.rpki_rules.proofs.RelaxedForms.{same, gathers_within, inside_within, joins_carries, octets_too, octets_within, spells_within, then_within, wraps_carries}
-use Rattle.rpki_rules.proofs.RelaxedValues.{bits_kept, extension_kept, key_kept}
+use Rattle.objects_payload.specs.Forms.{Carries}
+use Rattle.objects_payload.specs.Relaxed.{relaxed_cert, relaxed_name, relaxed_tbs}
+use Rattle.objects_payload.specs.RelaxedLaws.{CertsStay, NamesStay}
+use Rattle.objects_payload.proofs.RelaxedForms.{same, gathers_within, inside_within, joins_carries, octets_too, octets_within, spells_within, then_within, wraps_carries}
+use Rattle.objects_payload.proofs.RelaxedValues.{bits_kept, extension_kept, key_kept}
 
 pub names_stay : NamesStay
 names_stay = record { carried = λ text name p. record { same = ap relaxed_name p.same; all = p.all; is = (spells_within same).carried text p.all p.is } }

@@ -14,8 +14,8 @@ use Rattle.objects_payload.specs.certs_basics.Keys.{IsFormat, IsKey}
 use Rattle.objects_payload.specs.certs_extension.Extensions.{IsExtension}
 use Rattle.objects_payload.specs.Identifiers as id
 use Rattle.objects_payload.specs.SignedAttributes.{AreAttributes, Attribute, IsOnce, those_of}
-use Rattle.rpki_rules.specs.Forms.{KeepsInBer, Within}
-use Rattle.rpki_rules.proofs.RelaxedForms.{same, as_within, default_within, gathers_within, inside_within, octets_within, then_within}
+use Rattle.objects_payload.specs.Forms.{KeepsInBer, Within}
+use Rattle.objects_payload.proofs.RelaxedForms.{same, as_within, default_within, gathers_within, inside_within, octets_within, then_within}
 
 -- A string that is primitive is one of BER.
 pub string_kept : (tag : TagValue) → KeepsInBer (λ m. IsString m tag)

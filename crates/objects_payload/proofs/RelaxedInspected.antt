@@ -2,7 +2,7 @@
 use Rattle.std.proofs.Common.{◌≡◌, ℕ, Bool, true, List, [], ◌∷◌, sym, ap, ◌∙◌, subst}
 use Rattle.bcder_tree.proofs.Fronts.{whole_front}
 use Rattle.bcder_tree.proofs.Modes.{to_ber}
-use Rattle.bcder_tree.proofs.Trees.{one_tree}
+use Rattle.objects_payload.proofs.of_bcder_tree.Trees.{one_tree}
 use Rattle.objects_payload.specs.bcder_tree.declared.mode.Mode.{Mode}
 use Rattle.objects_payload.specs.bcder_tree.declared.mode.Mode.TheVariants.{Ber, Der}
 use Rattle.objects_payload.specs.bcder_tree.Tree.{Tree, Spells}
@@ -18,8 +18,8 @@ use Rattle.objects_payload.specs.certs_extension.declared.forms.InspectionError.
 use Rattle.objects_payload.specs.certs_extension.declared.forms.InspectionError.TheVariants as test
 use Rattle.objects_payload.specs.certs_extension.declared.forms.Role.{Role}
 use Rattle.objects_payload.specs.ObjectText.{Object, ObjectText, Sound}
-use Rattle.rpki_rules.specs.Relaxed.{relaxed, relaxed_cert, relaxed_name}
-use Rattle.rpki_rules.specs.RelaxedLaws.{InspectedAlike, NamesAlike, SoundAlike}
+use Rattle.objects_payload.specs.Relaxed.{relaxed, relaxed_cert, relaxed_name}
+use Rattle.objects_payload.specs.RelaxedLaws.{InspectedAlike, NamesAlike, SoundAlike}
 
 -- A name that passes inspection passes it in BER, in whatever mode it was read.
 pub name_relaxed : (strict : Bool) (name : CapturedValue) → IsRpkiName strict name → IsRpkiName strict (relaxed_name name)

@@ -4,18 +4,19 @@ use Rattle.objects_payload.specs.bcder_tree.declared.mode.Mode.TheVariants.{Ber,
 use Rattle.objects_payload.specs.bcder_tree.Tags.{context}
 use Rattle.objects_payload.specs.bcder_tree.Tree.{Tree}
 use Rattle.objects_payload.specs.bcder_tree.Strings.{octet_string_tag}
+use Rattle.objects_payload.specs.bcder_content.Grammar.{One}
 use Rattle.objects_payload.specs.ObjectText.{ObjectFields, SignedFields, SpellsContentInfo, SpellsObject, SpellsSignedData, SpellsSigner}
 use Rattle.objects_payload.specs.Contents.{ReadsAs}
 use Rattle.objects_payload.specs.Manifests.{ManifestText}
 use Rattle.objects_payload.specs.Roas.{RoaText}
 use Rattle.objects_payload.specs.Aspas.{AspaText}
-use Rattle.objects_payload.proofs.Objects.{one_aspa, one_manifest, one_object, one_roa}
-use Rattle.rpki_rules.specs.Forms.{Carries, KeepsInBer}
-use Rattle.rpki_rules.specs.Relaxed.{relaxed, relaxed_cert}
-use Rattle.rpki_rules.specs.RelaxedLaws.{ObjectsStay, ObjectsStayAlone, Stays, StaysAlone}
-use Rattle.rpki_rules.proofs.RelaxedForms.{same, front_carries, inside_within, joins_carries, octets_too, order_within, spells_within, such_within, then_within, wraps_carries}
-use Rattle.rpki_rules.proofs.RelaxedValues.{attributes_kept, string_kept}
-use Rattle.rpki_rules.proofs.RelaxedCerts.{certs_stay}
+use Rattle.objects_payload.proofs.Objects.{one_aspa, one_manifest, one_object, one_roa, reads_as_one}
+use Rattle.objects_payload.specs.Forms.{Carries, KeepsInBer}
+use Rattle.objects_payload.specs.Relaxed.{relaxed, relaxed_cert}
+use Rattle.objects_payload.specs.RelaxedLaws.{ObjectsStay, ObjectsStayAlone, Stays, StaysAlone}
+use Rattle.objects_payload.proofs.RelaxedForms.{same, front_carries, inside_within, joins_carries, octets_too, order_within, spells_within, such_within, then_within, wraps_carries}
+use Rattle.objects_payload.proofs.RelaxedValues.{attributes_kept, string_kept}
+use Rattle.objects_payload.proofs.RelaxedCerts.{certs_stay}
 
 pub signer_kept : KeepsInBer SpellsSigner
 signer_kept =
@@ -64,8 +65,11 @@ pub objects_stay_alone : ObjectsStayAlone
 objects_stay_alone octets o p r s = one_object false octets p (relaxed o) s (objects_stay octets o r)
 
 -- Objects of one kind: the content's octets are the same, and are read in DER in both.
-reads_stay : {A : Type 0} {kind : List ℕ} {Q : Tree → A → Type 0} → Stays (ReadsAs kind Q)
+pub reads_stay : {A : Type 0} {kind : List ℕ} {Q : Tree → A → Type 0} → Stays (ReadsAs kind Q)
 reads_stay octets o x p = record { object = objects_stay octets o p.object; type_is = p.type_is; content_is = p.content_is }
+
+pub reads_stay_alone : {A : Type 0} {kind : List ℕ} {Q : Tree → A → Type 0} → One Q → StaysAlone (ReadsAs kind Q)
+reads_stay_alone one octets o p x y r s = reads_as_one one false octets p (relaxed o) y x s (reads_stay octets o x r)
 
 pub manifests_stay : Stays ManifestText
 manifests_stay = reads_stay

@@ -8,7 +8,7 @@ use Rattle.objects_payload.specs.bcder_tree.Tree.{Tree, Trees, IsConstructed, de
 use Rattle.objects_payload.specs.bcder_content.Grammar.{As, Default, Inside, Many, ManyCases, OctetsOf, Opt, OptCases, Where, Then}
 use Rattle.objects_payload.specs.bcder_content.Words.{Gathers}
 use Rattle.objects_payload.specs.bcder_content.Texts.{InFront, InOrder, Joins, SpellsOf, WithOctets, Wraps}
-use Rattle.rpki_rules.specs.Forms.{Carries, Within}
+use Rattle.objects_payload.specs.Forms.{Carries, Within}
 
 pub same : {S A : Type 0} {P : S → A → Type 0} → Within P P
 same = record { carried = λ s x p. p }
