@@ -50,8 +50,9 @@ Cert = collections.namedtuple("Cert", "identifier authority bits message signatu
 # A revocation list, in the same words.
 List = collections.namedtuple("List", "authority message signature")
 
-# A signed object: its certificate, the attributes as they are signed, and their signature.
-Object = collections.namedtuple("Object", "cert attributes signature")
+# A signed object: its certificate, the attributes as they are signed, their signature, and its content's type (the identifier's
+# octets) and octets, where these can be read.
+Object = collections.namedtuple("Object", "cert attributes signature kind content")
 
 
 def header(octets, at, end):
@@ -186,12 +187,23 @@ def read_list(octets, at, end):
     return List(authority, octets[at:stop], signature)
 
 
-BEFORE_CERT = ((INTEGER, "the object's version"), (SET, "the digest algorithms"), (SEQUENCE, "the content"))
+BEFORE_CONTENT = ((INTEGER, "the object's version"), (SET, "the digest algorithms"))
 BEFORE_ATTRIBUTES = (
     (INTEGER, "the signer's version"),
     (OCTETS_0, "the signer's key identifier"),
     (SEQUENCE, "the digest's algorithm"),
 )
+
+
+def content_at(octets, at, end):
+    """The type and the octets of a signed object's content (RFC 5652 5.2), each None where they can't be read."""
+    try:
+        start, at = enter(octets, at, end, OID, "the content's type")
+        kind = octets[start:at]
+        start, stop = enter(octets, *enter(octets, at, end, TAG_0, "the content"), OCTET_STRING, "the content")
+        return kind, octets[start:stop]
+    except Malformed:
+        return None, None
 
 
 def read_object(octets, at, end):
@@ -201,7 +213,9 @@ def read_object(octets, at, end):
         raise Malformed("the object's type isn't that of signed data")
     at, end = enter(octets, at + len(SIGNED_DATA), end, TAG_0, "the signed data")
     at, end = enter(octets, at, end, SEQUENCE, "the signed data")
-    at = skip(octets, at, end, *BEFORE_CERT)
+    at = skip(octets, at, end, *BEFORE_CONTENT)
+    start, at = enter(octets, at, end, SEQUENCE, "the content")
+    content = content_at(octets, start, at)
     cert, at = enter(octets, at, end, TAG_0, "the object's certificate")
     cert = read_cert(octets, cert, at)
     at, end = enter(octets, at, end, SET, "the signers")
@@ -212,7 +226,7 @@ def read_object(octets, at, end):
     at = skip(octets, at, end, (SEQUENCE, "the signature's algorithm"))
     start, stop = enter(octets, at, end, OCTET_STRING, "the signature")
     # the attributes are signed as a SET (RFC 5652 5.4)
-    return Object(cert, der(SET, attributes), octets[start:stop])
+    return Object(cert, der(SET, attributes), octets[start:stop], *content)
 
 
 def read(octets):
