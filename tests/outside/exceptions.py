@@ -93,6 +93,17 @@ aspa AS64498 AS1 AS2 AS64501
 aspa AS64499 AS64500
 refused t tal
 """
+# What the example's rules make of the lines of the example's cache.
+EXAMPLE = """\
+roa AS64511 10.0.0.0/8 24
+roa AS64496 192.0.2.0/24 24
+roa AS64496 2001:db8::/32 48
+aspa AS64496 AS64497 AS64498
+aspa AS64511 AS64496 AS64497
+refused rsync://rpki.example/repository/operator/changed.roa object
+refused rsync://rpki.example/repository/operator/others.roa object
+refused rsync://rpki.example/repository/operator/revoked.roa object
+"""
 
 
 def same(what, got, wanted):
@@ -138,6 +149,11 @@ def worked(path):
     for lines in ("", LINES, SECOND):
         done = run(path, none, lines)
         same("no rules", (done.returncode, done.stdout), (0, lines))
+    texts = []
+    for name in ("slurm.json", "cache.lines"):
+        with open(os.path.join(TOP, "examples", name)) as file:
+            texts.append(file.read())
+    same("the example", run(path, *texts).stdout, EXAMPLE)
     done = run(path, WHOLE, "")
     asserted = "roa AS64496 198.51.100.0/24 24\nroa AS64496 2001:db8::/32 48\n"
     same("no lines", (done.returncode, done.stdout), (0, asserted))
