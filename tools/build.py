@@ -30,7 +30,7 @@ import time
 
 sys.dont_write_bytecode = True
 
-TOP = os.path.join(os.path.dirname(os.path.abspath(__file__)), os.pardir)
+TOP = os.path.dirname(os.path.dirname(os.path.abspath(__file__)))
 LIBRARY = os.path.join(TOP, "tests", "lib")
 # The programs, each with words by which `rt run` runs it over the example bundle, and it ends with 0.
 NAMES = {"rpki_check": ["check"], "rpki_ask": ["refusals"]}

@@ -27,6 +27,7 @@ import caches
 import faults
 import points
 import relaxed
+import rsa_keys
 import signed
 from copies import Copies, Folders
 from leaving import LeftOuts
@@ -264,7 +265,7 @@ class Helper(Copies):
         encoded = signed.encoded_key(bits)
         message = hashlib.sha256(found.attributes).digest()
         verdict = hashlib.sha256(encoded).digest() + message + hashlib.sha256(found.signature).digest()
-        self.judge(uri, verdict, lambda: signed.load_key(encoded), message, found.signature)
+        self.judge(uri, verdict, lambda: rsa_keys.load_key(encoded), message, found.signature)
 
     def judge(self, uri, verdict, load, message, signature):
         """Keeps the verdict where the signature is good: by an earlier run, or by the key that `load` loads."""
@@ -278,7 +279,7 @@ class Helper(Copies):
                 signatures["no_key"] += 1
                 return self.not_good(uri, why)
             signatures["computed"] += 1
-            if not signed.has_signed(key, message, signature):
+            if not rsa_keys.has_signed(key, message, signature):
                 signatures["bad"] += 1
                 return self.not_good(uri, "a bad signature")
         self.verdicts.append(verdict)
@@ -313,7 +314,7 @@ class Helper(Copies):
             bits = os.pread(self.key_files[number], size, start)
             if len(self.loaded) >= MOST_LOADED:
                 self.loaded.clear()
-            self.loaded[row] = signed.load_key(signed.encoded_key(bits))
+            self.loaded[row] = rsa_keys.load_key(signed.encoded_key(bits))
         return self.loaded[row]
 
     def finish(self):

@@ -9,6 +9,7 @@ import collections
 import hashlib
 import re
 
+import rsa_keys
 import signed
 from relaxed import Values
 from signed import INTEGER, OCTET_STRING, OID, SEQUENCE, SET, TAG_0, TAG_3, Malformed
@@ -105,8 +106,8 @@ def is_signed(bits, identifier, message, signature):
     if bits is None or not signed.has_identifier(bits, identifier):
         return False
     signed.check_size(bits)
-    key = signed.load_key(signed.encoded_key(bits))
-    return signed.has_signed(key, hashlib.sha256(message).digest(), signature)
+    key = rsa_keys.load_key(signed.encoded_key(bits))
+    return rsa_keys.has_signed(key, hashlib.sha256(message).digest(), signature)
 
 
 def is_manifest_by(found, bits):

@@ -1,4 +1,4 @@
-"""What is signed in certificates, revocation lists and signed objects, and the RSA keys that sign it.
+"""What is signed in certificates, revocation lists and signed objects, and by which keys; `rsa_keys` checks the signatures.
 
 Octets are read by where their values stand: nothing is copied but what is digested or checked. What a file is, its first
 values tell, not its name. A reader here asks for less than the profiles do (RFC 6487, RFC 6488): whatever a validator
@@ -8,13 +8,6 @@ accepts is found, and of what it refuses nothing has to be. Lengths are those of
 
 import collections
 import hashlib
-import warnings
-
-from cryptography.exceptions import InternalError, InvalidSignature, UnsupportedAlgorithm
-from cryptography.hazmat.primitives import hashes
-from cryptography.hazmat.primitives.asymmetric import padding, rsa
-from cryptography.hazmat.primitives.asymmetric.utils import Prehashed
-from cryptography.hazmat.primitives.serialization import load_der_public_key
 
 BOOLEAN, INTEGER, BIT_STRING, OCTET_STRING, OID = 0x01, 0x02, 0x03, 0x04, 0x06
 SEQUENCE, SET = 0x30, 0x31
@@ -33,10 +26,6 @@ IDENTIFIER_OCTETS = 20
 # would take as long as hundreds do (OpenSSL has the same limit of exponents for large keys).
 MOST_MODULUS_BITS, MOST_EXPONENT_BITS = 4096, 64
 MOST_SIGNATURE_OCTETS = MOST_MODULUS_BITS // 8
-
-# (of small keys `cryptography` warns)
-warnings.filterwarnings("ignore", module="cryptography")
-PADDING, PREHASHED = padding.PKCS1v15(), Prehashed(hashes.SHA256())
 
 
 class Malformed(Exception):
@@ -264,24 +253,3 @@ def check_size(bits):
         raise Malformed(f"the key has more than {MOST_MODULUS_BITS:,} bits")
     if int.from_bytes(bits[start : min(exponent_stop, start + 16)], "big").bit_length() > MOST_EXPONENT_BITS:
         raise Malformed(f"the key's exponent has more than {MOST_EXPONENT_BITS} bits")
-
-
-def load_key(encoded):
-    """The key of these octets, for `has_signed`."""
-    try:
-        key = load_der_public_key(encoded)
-    except (ValueError, TypeError, OverflowError, UnsupportedAlgorithm):
-        key = None
-    if not isinstance(key, rsa.RSAPublicKey):
-        raise Malformed("the key isn't one of RSA")
-    return key
-
-
-def has_signed(key, digest, signature):
-    """Whether the signature is good by the key over what has that SHA-256 digest (RFC 8017 8.2.2, RFC 7935 2)."""
-    try:
-        key.verify(signature, digest, PADDING, PREHASHED)
-    except (InvalidSignature, ValueError, InternalError):
-        # (a value error: the key is too short for any signature)
-        return False
-    return True

@@ -261,8 +261,8 @@ class Room:
         """That the run ended so, and FILE is as it was."""
         with open(self.out) as file:
             self.tests.same(f"{name}: the status, and FILE", (done.returncode, file.read() == text), (status, True), done.stderr)
-        left = sorted(set(os.listdir(self.path("out"))) - {"routes.json", "routes.json.status.json"})
-        self.tests.same(f"{name}: nothing is left", left, [])
+        others = [one for one in os.listdir(self.path("out")) if one != "routes.json" and not one.startswith("routes.json.status.")]
+        self.tests.same(f"{name}: nothing but the status is left", others, [])
         for word in said:
             self.tests.same(f"{name}: says {word}", word in done.stderr, True, done.stderr)
 
@@ -503,8 +503,10 @@ def shared(room, is_many):
     world.publish().add(leaf)
     room.lay(world)
     room.stands()
-    done = room.run("--max-store-size", str(share))
-    room.gives("a store's share", done, WELL, world, ["max-store-size", leaf.at])
+    room.gives("a store's share", room.run("--max-store-size", str(share)), WELL, world, ["max-store-size", leaf.at])
+    with open(f"{room.out}.status.json") as file:
+        told = {row["authority"] for row in json.load(file)["left_out"] if "max-store-size" in row["why"]}
+    room.tests.same("a store's share: by whom", told, {leaf.at})
     room.stands()
     room.gives("within the share", room.run("--max-store-size", str(2 * count * size)), WELL, world)
 

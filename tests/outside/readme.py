@@ -13,6 +13,7 @@ states, but for the JSON's `metadata.proved`, which tells of the program. Exits 
 
 import json
 import os
+import shutil
 import subprocess
 import sys
 import tempfile
@@ -35,7 +36,9 @@ def commands(page, heading):
 
 def lay(room, program):
     """The folders that the commands name, as they lie in a clone; `bin` where there is a program."""
-    for name in ("tools", "examples", "tests"):
+    # (the tools look beside the folder where they lie, not where a link leads to)
+    shutil.copytree(os.path.join(TOP, "tools"), os.path.join(room, "tools"), ignore=shutil.ignore_patterns("__pycache__"))
+    for name in ("examples", "tests"):
         os.symlink(os.path.join(TOP, name), os.path.join(room, name))
     if program is not None:
         os.mkdir(os.path.join(room, "bin"))
