@@ -10,14 +10,15 @@ ghost use Rattle.objects.specs.bcder_values.Writable.{Writable};
 ghost use Rattle.objects.specs.Refusing.{CanWrite, ContentRefused};
 ghost use Rattle.objects.specs.Issued.{IsManifestFor, inheriting};
 ghost use Rattle.objects.specs.objects_payload.Identifiers as id;
-ghost use Rattle.objects.specs.objects_written.Manifests.{IsManifestNumber, manifest};
+ghost use Rattle.objects.specs.objects_contents.Manifests.{IsManifestNumber, manifest};
 
 use certs_key::laws::serials_are_small;
 use certs_key::oid::CT_RPKI_MANIFEST;
 use certs_key::{Captured, Digester, Signer, SigningError};
 use objects_cms::manifest::ManifestContent;
+use objects_contents::EncodeManifest;
+use objects_written::SignedObjectBuilder;
 use objects_written::causes::unwritten;
-use objects_written::{EncodeManifest, SignedObjectBuilder};
 use std::alloc::Global;
 
 // The content of a manifest, in DER; its number is one that a manifest may have.

@@ -4,7 +4,7 @@ ghost use Rattle.std.specs.Prelude.{◌≡◌, IfErr, IfOk};
 ghost use Rattle.objects.specs.bcder_tree.declared.mode.Mode.TheVariants.{Der};
 ghost use Rattle.objects.specs.certs_key.Digesting.{digests_of};
 ghost use Rattle.objects.specs.objects_payload.Roas.{Roa};
-ghost use Rattle.objects.specs.objects_written.Roas.{roa};
+ghost use Rattle.objects.specs.objects_contents.Roas.{roa};
 ghost use Rattle.objects.specs.resources_chain.declared.choice.ResourcesChoice.TheVariants.{Missing};
 ghost use Rattle.objects.specs.resources_ip_prefix.declared.addr.AddressFamily.TheVariants.{Ipv4, Ipv6};
 ghost use Rattle.objects_payload.specs.Addresses.{AllOf};
@@ -19,9 +19,10 @@ use crate::issued::addresses::resources_of;
 use certs_extension::{AsResources, IpResources};
 use certs_key::oid::CT_ROUTE_ORIGIN_AUTHZ;
 use certs_key::{Captured, Digester, Signer, SigningError};
+use objects_contents::EncodeRoa;
 use objects_payload::roa::{RoaBuilder, RouteOriginAttestation};
+use objects_written::SignedObjectBuilder;
 use objects_written::causes::unwritten;
-use objects_written::{EncodeRoa, SignedObjectBuilder};
 use std::alloc::{AllocError, Global};
 
 // The content of an attestation, in DER.

@@ -3,7 +3,7 @@ use Rattle.objects.proofs.ManifestAgain.{object_signed}
 use Rattle.std.specs.Prelude.{◌≡◌}
 use Rattle.objects.specs.bcder_tree.declared.mode.Mode.TheVariants.{Der}
 use Rattle.objects.specs.objects_payload.Identifiers as id
-use Rattle.objects.specs.objects_written.Manifests.{manifest}
+use Rattle.objects.specs.objects_contents.Manifests.{manifest}
 use Rattle.objects_written.specs.Builders.{BuilderValue}
 use Rattle.objects.specs.Issued.{inheriting}
 use Rattle.objects.proofs.Refused.{object_stop}

@@ -4,7 +4,7 @@ use Rattle.objects.proofs.Refused.{content_stop, object_stop}
 use Rattle.std.proofs.Common.{inr}
 use Rattle.objects.specs.bcder_tree.declared.mode.Mode.TheVariants.{Der}
 use Rattle.objects.specs.objects_payload.Identifiers as id
-use Rattle.objects.specs.objects_written.Roas.{roa}
+use Rattle.objects.specs.objects_contents.Roas.{roa}
 use Rattle.objects.specs.Issued.{AttestsPrefixes}
 use Rattle.objects.proofs.issued.roas.sign.Goals as goal
 use Rattle.objects_written.specs.Refusing.{refusals_of}

@@ -4,7 +4,7 @@ use Rattle.std.proofs.Common.{IfErr, subst}
 use Rattle.objects.specs.bcder_tree.declared.mode.Mode.TheVariants.{Der}
 use Rattle.objects.specs.objects_payload.Identifiers as id
 use Rattle.objects.specs.objects_payload.Roas.{Roa}
-use Rattle.objects.specs.objects_written.Roas.{roa}
+use Rattle.objects.specs.objects_contents.Roas.{roa}
 use Rattle.objects_written.specs.Refusing.{BuildRefused, refusals_of}
 use Rattle.objects.specs.Issued.{AttestsPrefixes}
 use Rattle.objects.specs.Refusing.{CanWrite, CannotSignContent, RefusesContent}
