@@ -7,8 +7,8 @@ use Rattle.objects_written.specs.bcder_values.Gathered.{ExtendRefused}
 use Rattle.objects_written.specs.bcder_primitive.declared.written.error.EncodeError.{EncodeError}
 use Rattle.objects_written.specs.bcder_primitive.declared.written.error.EncodeError.TheVariants as errors
 use Rattle.objects_written.specs.objects_payload.Manifests.{IsManifest, Manifest}
-use Rattle.objects_written.specs.Manifests.{AreFileNames, IsManifestNumber, ManifestParts, manifest, manifest_parts, written_manifest}
-use Rattle.objects_written.proofs.Told.{manifest_told}
+use Rattle.objects_contents.specs.Manifests.{AreFileNames, IsManifestNumber, ManifestParts, manifest, manifest_parts, written_manifest}
+use Rattle.objects_contents.proofs.Told.{manifest_told}
 use Rattle.objects_encoded.specs.Making.{IsCause, MakingRefused}
 use Rattle.objects_encoded.specs.declared.making.ManifestError.{ManifestError}
 

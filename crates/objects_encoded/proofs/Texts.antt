@@ -23,7 +23,7 @@ use Rattle.objects_written.specs.objects_payload.ObjectText.{Object, ObjectText,
 use Rattle.objects_written.specs.objects_payload.SignedAttributes.{AreAttributes, AttributesValue}
 use Rattle.certs.specs.Outputs.{of}
 use Rattle.objects_written.proofs.FrameAgain.{by_trees, ends_of, info_spelled, joins_of, only, signed_of, wraps_of}
-use Rattle.objects_written.proofs.Words.{spelled_of}
+use Rattle.objects_contents.proofs.Words.{spelled_of}
 use Rattle.objects_written.specs.Frames.{ObjectParts, object}
 use Rattle.objects_encoded.specs.Again.{WritesAgain, WritesCertAgain, cert_value, parts_of, with_null}
 

@@ -4,7 +4,7 @@ use Rattle.objects_written.specs.bcder_tree.declared.mode.Mode.TheVariants.{Der}
 use Rattle.objects_written.specs.bcder_primitive.declared.written.error.EncodeError.{EncodeError}
 use Rattle.objects_written.specs.bcder_primitive.declared.written.error.EncodeError.TheVariants as errors
 use Rattle.objects_written.specs.objects_payload.Manifests.{File, Manifest}
-use Rattle.objects_written.specs.Manifests.{AreFileNames, manifest}
+use Rattle.objects_contents.specs.Manifests.{AreFileNames, manifest}
 use Rattle.objects_encoded.specs.declared.making.ManifestError.{ManifestError}
 use Rattle.objects_encoded.specs.declared.making.ManifestError.TheVariants.{FileName, TooLong, Memory}
 

@@ -5,8 +5,8 @@ ghost use Rattle.objects_written.specs.bcder_tree.declared.mode.Mode.TheVariants
 ghost use Rattle.objects_written.specs.bcder_content.Texts.{SpellsOf};
 ghost use Rattle.objects_written.specs.bcder_values.Gathered.{ExtendRefused};
 ghost use Rattle.objects_written.specs.objects_payload.Manifests.{IsFileName, IsManifest, Manifest as ManifestValue};
-ghost use Rattle.objects_written.specs.Manifests.{AreFileNames, IsManifestNumber, file as written_file};
-ghost use Rattle.objects_written.specs.Manifests.{manifest, manifest_parts};
+ghost use Rattle.objects_contents.specs.Manifests.{AreFileNames, IsManifestNumber, file as written_file};
+ghost use Rattle.objects_contents.specs.Manifests.{manifest, manifest_parts};
 ghost use Rattle.objects_encoded.specs.Making.{IsCause, MakingRefused, file_of, manifest_of};
 ghost use Rattle.objects_encoded.specs.declared.making.ManifestError.TheVariants.{Memory as NoMemory};
 
@@ -15,8 +15,8 @@ use certs::written::{EncodeError, Sequence, Time, Values};
 use certs_key::{Captured, Mode, Serial};
 use objects_cms::manifest::file::is_file_name;
 use objects_cms::manifest::{FileAndHash, ManifestContent};
-use objects_written::EncodeFile;
-use objects_written::manifest::{Parts, parts_of};
+use objects_contents::EncodeFile;
+use objects_contents::manifest::{Parts, parts_of};
 use std::alloc::{AllocError, Global};
 use std::io::Write;
 use std::marker::Model;

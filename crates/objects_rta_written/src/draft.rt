@@ -3,10 +3,9 @@
 ghost use Rattle.std.specs.Borrow.{sem};
 ghost use Rattle.std.specs.Prelude.{◌≡◌, ◌++◌, ◌∷◌, [], IfErr, IfOk, OnErr, OnOk};
 ghost use Rattle.objects_written.specs.certs_key.Digesting.{digests_of};
-ghost use Rattle.objects_written.specs.Refusing.{BuildRefused, CanTell};
-ghost use Rattle.objects_rta.specs.Attestations.{tagged_attestation};
+ghost use Rattle.objects_written.specs.Refusing.{refusals_of};
 ghost use Rattle.objects_rta_written.specs.Again.{signers_seen};
-ghost use Rattle.objects_rta_written.specs.Builders.{AddsSigner, CannotAdd, IsBegun, IsSigner, object_of, signs};
+ghost use Rattle.objects_rta_written.specs.Builders.{AddsSigner, IsBegun, IsSigner, SignerRefused, object_of, signs};
 ghost use Rattle.objects_written.specs.certs_basics.Keys.{KeyValue, identifier};
 ghost use Rattle.objects_written.specs.certs_key.declared.signer.SigningError.TheVariants.{Memory as no_memory};
 ghost use Rattle.objects_written.specs.objects_payload.ObjectText.{signer_of};
@@ -191,12 +190,12 @@ impl RtaBuilder {
             (signs (digests_of D.sha256_digest D.sha1_digest digester.now) self.old signing_time)
             self.old self.new) }
         ensures err { OnErr result (self.new ≡ self.old) }
-        ensures refused { IfErr result (BuildRefused (S.refuses signer.now)
-            (CanTell tagged_attestation) (CannotAdd
+        ensures refused { IfErr result (SignerRefused
+            (refusals_of S.refuses_key S.refuses S.refuses_once signer.now key.now)
             (digests_of D.sha256_digest D.sha1_digest digester.now)
             (S.has_key signer.now key.now) (S.signs signer.now key.now)
             (signs (digests_of D.sha256_digest D.sha1_digest digester.now)
-            self.old signing_time))) }
+            self.old signing_time)) }
     {
         match self.make(alloc, signer, key, signing_time, digester) {
             Ok(made) => self.add(made),
@@ -218,12 +217,12 @@ impl RtaBuilder {
             (signs (digests_of D.sha256_digest D.sha1_digest digester.now) self.now signing_time)
             (identifier (digests_of D.sha256_digest D.sha1_digest digester.now) k)
             (signer_of (signer_fields x))) }
-        ensures refused { IfErr result (BuildRefused (S.refuses signer.now)
-            (CanTell tagged_attestation) (CannotAdd
+        ensures refused { IfErr result (SignerRefused
+            (refusals_of S.refuses_key S.refuses S.refuses_once signer.now key.now)
             (digests_of D.sha256_digest D.sha1_digest digester.now)
             (S.has_key signer.now key.now) (S.signs signer.now key.now)
             (signs (digests_of D.sha256_digest D.sha1_digest digester.now)
-            self.now signing_time))) }
+            self.now signing_time)) }
     {
         let content = octets_of(&self.octets);
         signer_for(alloc, content, signing_time, signer, key, digester)

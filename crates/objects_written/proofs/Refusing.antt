@@ -61,12 +61,6 @@ pub stopped : {A : Type 0} (F : EncodeError → Type 0) (r : Result A EncodeErro
 stopped F (Ok x) e a h = absurd a.1
 stopped F (Err x) e a h = subst F (sym a.1) h
 
--- There is the text that memory was lacking for.
-pub lacked : {A : Type 0} (P : List ℕ → Type 0) (r : Result A EncodeError) → IfErr r (λ e. e ≡ errors.Memory → (n : ℕ) × HasLength P n × (1 ≤ n))
-    → IfErr r (λ e. e ≡ errors.Memory → (text : List ℕ) × P text)
-lacked P (Ok x) h = tt
-lacked P (Err e) h = λ m. let k = h m in (k.1.text, k.1.is)
-
 -- What is known before holds of each error.
 pub known : {A : Type 0} (F : EncodeError → Type 0) (r : Result A EncodeError) → ((e : EncodeError) → F e) → IfErr r F
 known F (Ok x) h = tt

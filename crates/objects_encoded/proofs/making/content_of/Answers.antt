@@ -1,4 +1,4 @@
-use Rattle.objects_written.proofs.Making.{same_manifest}
+use Rattle.objects_contents.proofs.Making.{same_manifest}
 use Rattle.objects_encoded.proofs.making.content_of.Goals as goal
 
 pub returns-in-Ok-clause-made : goal.returns-in-Ok-clause-made

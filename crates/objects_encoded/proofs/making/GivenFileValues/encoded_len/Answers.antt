@@ -1,6 +1,6 @@
 use Rattle.std.proofs.Common.{◌∙◌}
-use Rattle.objects_written.specs.Manifests.{file}
-use Rattle.objects_written.proofs.Same.{len_same, no_len_same}
+use Rattle.objects_contents.specs.Manifests.{file}
+use Rattle.objects_contents.proofs.Same.{len_same, no_len_same}
 use Rattle.objects_encoded.proofs.making.GivenFileValues.encoded_len.Goals as goal
 
 pub returns-clause-len : goal.returns-clause-len

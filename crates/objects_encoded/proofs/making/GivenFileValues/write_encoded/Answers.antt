@@ -1,6 +1,6 @@
 use Rattle.std.proofs.Common.{◌∙◌}
-use Rattle.objects_written.specs.Manifests.{file}
-use Rattle.objects_written.proofs.Same.{refused_same, wrote_same}
+use Rattle.objects_contents.specs.Manifests.{file}
+use Rattle.objects_contents.proofs.Same.{refused_same, wrote_same}
 use Rattle.objects_encoded.proofs.making.GivenFileValues.write_encoded.Goals as goal
 
 pub returns-clause-written : goal.returns-clause-written

@@ -1,6 +1,6 @@
 use Rattle.std.proofs.Common.{List, IsTrue, ◌↔◌, ap, ◌∙◌, subst}
 use Rattle.objects_written.specs.objects_payload.Manifests.{File, Manifest}
-use Rattle.objects_written.specs.Manifests.{AreFileNames}
+use Rattle.objects_contents.specs.Manifests.{AreFileNames}
 use Rattle.objects_encoded.proofs.making.ManifestBuilder.has_file_names.Goals as goal
 
 pub returns : goal.returns
