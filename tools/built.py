@@ -8,10 +8,9 @@ import collections
 import hashlib
 import json
 import os
+import sys
 
 HERE = os.path.dirname(os.path.abspath(__file__))
-TOP = os.path.dirname(HERE)
-BIN = os.path.join(TOP, "bin")
 BUILT = "built.json"
 PIECE = 1 << 20
 # So many digits of a sum are shown.
@@ -32,17 +31,24 @@ class Program(collections.namedtuple("Program", "name path is_proved")):
         return {"path": self.path, "proved": self.is_proved, "sha256": digest_of(self.path) if self.is_there() else None}
 
 
+def top():
+    """The folder above the tools, by the path by which they were called, where links may lead to them."""
+    called = getattr(sys.modules.get("__main__"), "__file__", None)
+    folder = os.path.dirname(os.path.abspath(called)) if called else HERE
+    return os.path.dirname(folder if os.path.isdir(folder) and os.path.samefile(folder, HERE) else HERE)
+
+
 def find(name, path=None):
     """The program of that name, or the one at the path that the operator gave."""
-    proved = os.path.join(TOP, "crates", name, "out", name)
+    proved, own = os.path.join(top(), "crates", name, "out", name), os.path.join(top(), "bin")
     if path is None:
-        path = proved if os.access(proved, os.X_OK) else os.path.join(BIN, name)
+        path = proved if os.access(proved, os.X_OK) else os.path.join(own, name)
     path = os.path.abspath(path)
     if os.path.realpath(path) == os.path.realpath(proved):
         return Program(name, path, True)
     told = told_beside(path).get(name)
     is_proved = told.get("proved") is True if isinstance(told, dict) else None
-    return Program(name, path, False if is_proved is None and os.path.dirname(path) == BIN else is_proved)
+    return Program(name, path, False if is_proved is None and os.path.dirname(path) == own else is_proved)
 
 
 def told_beside(path):

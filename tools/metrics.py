@@ -66,7 +66,9 @@ def of_lines(told):
 
 
 def of_what_is_missing(told):
-    locators = [({"locator": one["name"]}, int(one["anchor"] is not None)) for one in told["locators"] or ()]
+    # (of a cache that wasn't read whole it isn't known)
+    found = told["locators"] if told["verdicts"] else None
+    locators = [({"locator": one["name"]}, int(one["anchor"] is not None)) for one in found or ()]
     yield from metric("locator_found", "Whether a file stands where the locator says.", locators)
     rows = [({"why": row["why"], "authority": row["authority"] or ""}, row["files"]) for row in told["left_out"]]
     yield from metric("left_out_files", "Files that were left out.", rows)

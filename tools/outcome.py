@@ -9,6 +9,7 @@ import time
 
 import built
 import guards
+import reports
 import statuses
 
 # So many octets of lists are kept; and so many contested URIs are told by name.
@@ -166,11 +167,6 @@ def text_of_report(outcome):
     """What verdicts.py reports that an operator should look at."""
     if apart := guards.apart(outcome.given.moment, outcome.report.get("newest_file")):
         yield "warning", apart
-    for row in outcome.report.get("left_out", []):
-        by = f" of {row['authority']}" if row.get("authority") else ""
-        names = ", ".join(row.get("first", [])[: guards.MOST_NAMED])
-        more = ", .." if row["files"] > guards.MOST_NAMED else ""
-        yield "notice", f"left out: {row['why']}{by}: {row['files']:,} ({names}{more})"
     for name in outcome.given.allow_missing_anchor:
         if name not in {one["name"] for one in outcome.report.get("locators") or [{"name": name}]}:
             yield "warning", f"--allow-missing-anchor {name}: there is no such locator"
@@ -181,12 +177,9 @@ def text_of_parted(outcome):
     for row in outcome.quarantined:
         yield "warning", f"QUARANTINED: {row['authority']} and what is below it, {reach_text(row['reach'])}"
     contested = outcome.report.get("contested", [])
-    for one in contested[:MOST_CONTESTED]:
-        loses = ", ".join(f"{row['authority']} ({row['place']})" for row in one["loses"])
-        stands = f"{one['stands']['authority']} ({one['stands']['place']})"
-        yield "warning", f"CONTESTED: {one['uri']}: that of {stands} stands, by {one['why']}; left out: {loses}"
+    yield from (("warning", reports.words(one)) for one in contested[:MOST_CONTESTED])
     if len(contested) > MOST_CONTESTED:
-        yield "warning", f"CONTESTED: {len(contested):,} in all, .."
+        yield "warning", f"CONTESTED {len(contested):,} in all, .."
 
 
 def text_of_guards(outcome):

@@ -28,7 +28,7 @@ def failure_of(fault):
     """What an exception of Python's means for the run: a Failed."""
     if isinstance(fault, Failed):
         return fault
-    if isinstance(fault, MemoryError):
+    if isinstance(fault, MemoryError) or isinstance(fault, OSError) and fault.errno == errno.ENOMEM:
         return Failed(MEMORY, "memory is short")
     if isinstance(fault, OSError):
         return Failed(FULL if fault.errno in NO_ROOM else FAULT, f"the disk is full: {fault}" if fault.errno in NO_ROOM else str(fault))

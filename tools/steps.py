@@ -18,7 +18,7 @@ import sys
 import tempfile
 import time
 
-from statuses import FAULT, MEMORY, Failed, Stopped, failure_of
+from statuses import CHECK, FAULT, MEMORY, Failed, Stopped, failure_of
 
 ENDING = (signal.SIGTERM, signal.SIGINT, signal.SIGHUP)
 # So long a step that was told to end may take for it, in seconds.
@@ -153,7 +153,7 @@ class Steps:
             if ended.lacks_memory():
                 raise Failed(MEMORY, ended.why(f"the step {name}"))
             if ended.over or ended.status:
-                raise Failed(FAULT, ended.why(f"the step {name}"))
+                raise Failed(CHECK, ended.why(f"the step {name}"))
             file.seek(0)
             told = json.load(file)
         if "status" in told:

@@ -1,7 +1,9 @@
 #!/usr/bin/env python3
 """Asks tools/validate.py whether everybody else's lines come out, whatever one publisher or a careless operator does.
 
-    publishers.py PROGRAM ASKER [--many]      (crates/rpki_check/out/rpki_check and crates/rpki_ask/out/rpki_ask, or other builds)
+    publishers.py PROGRAM ASKER [--many] [--only WORD]
+
+PROGRAM and ASKER are crates/rpki_check/out/rpki_check and crates/rpki_ask/out/rpki_ask, or other builds of them.
 
 Three trust anchors have two members each with ROAs and ASPAs, and below the first anchor there is somebody who holds one
 certificate and a few addresses, and publishes what it likes:
@@ -13,7 +15,8 @@ certificate and a few addresses, and publishes what it likes:
   faults   a disk that is full, a Python without `cryptography`, memory that is short, a checker that fails
 
 Each time the others' origins and customers are compared with what was made, which is stated here, or FILE with what it was; and
-the exit status. With --many publishers are many and objects large, as large as anybody was found to make them.
+the exit status. With --many each way is tried in each layout, and objects are as many and as large as anybody was found to make
+them; --only takes the parts with the word in their name.
 
 Prints a line for each answer that isn't right, and `N passed, M failed`; exits with 1 where one failed.
 """
@@ -23,6 +26,7 @@ import base64
 import functools
 import hashlib
 import ipaddress
+import itertools
 import json
 import os
 import shutil
@@ -48,6 +52,8 @@ SHARED, HOST = "rpki.example", "rsync://rpki.example/"
 # The same host to whoever looks it up, in a spelling that sorts first.
 SPELLED = "RPKI.EXAMPLE"
 NOTIFY = "https://rrdp.example/notification.xml"
+# Since when the attacker's certificate is valid, beside others', where it is newer than these, or older.
+NEWER, OLDER = "20240601000000Z", "20230101000000Z"
 OLD = json.dumps({"roas": [], "metadata": {"note": "the file that stood there"}}) + "\n"
 # Of the first anchor's numbers the attacker holds these.
 ITS_NETWORKS = [ipaddress.ip_network("10.255.0.0/16"), ipaddress.ip_network("2001:db8:ff00::/40")]
@@ -96,11 +102,11 @@ def key(name):
 
 class Publisher(Authority):
     """An authority: where it publishes, by which name, and the notification file of its RRDP server, where it has one. `cert` is the
-    name of its certificate's file."""
+    name of its certificate's file, and `first` since when that is valid."""
 
-    def __init__(self, name, held, parent=None, notify=None, folder=None, cert=None):
+    def __init__(self, name, held, parent=None, notify=None, folder=None, cert=None, first=repository.NOT_BEFORE):
         super().__init__(name, key(cert or name), held, parent)
-        self.notify, self.cert = notify, f"{cert or name}.cer"
+        self.notify, self.cert, self.first = notify, f"{cert or name}.cer", first
         self.folder = folder or f"{HOST}repository/{name}/"
         self.at = (parent.folder if parent else f"{HOST}ta/") + self.cert
 
@@ -110,6 +116,14 @@ class Publisher(Authority):
         places += [("13", self.notify)] if self.notify else []
         rows = (sequence(oid("1.3.6.1.5.5.7.48." + kind), uri(place)) for kind, place in places)
         return extension("1.3.6.1.5.5.7.1.11", sequence(*rows))
+
+    def own_cert(self):
+        before = repository.NOT_BEFORE
+        repository.NOT_BEFORE = self.first
+        try:
+            return super().own_cert()
+        finally:
+            repository.NOT_BEFORE = before
 
     def certified(self):
         """Puts its certificate among its parent's files."""
@@ -143,9 +157,9 @@ class World:
         self.others.append(member.certified())
 
     def attacker(self, **how):
-        """Somebody below the first anchor, who signs by its own key."""
+        """Somebody below the first anchor, who signs by its own key; its certificate is newer than others', if nothing else is said."""
         held = Held(ITS_NETWORKS, [(ITS_AS, ITS_AS)])
-        return Publisher(**{"name": "leaf", "cert": "leaf", **how}, held=held, parent=self.anchors[0])
+        return Publisher(**{"name": "leaf", "cert": "leaf", "first": NEWER, **how}, held=held, parent=self.anchors[0])
 
     def add(self, publisher, notify=None):
         """Lays what it publishes in its store."""
@@ -182,9 +196,15 @@ def of_routinator(store, host, path):
     return f"store/{server or ''}rsync/{host}/{path}"
 
 
+def of_fort_by_numbers(store, host, path):
+    """As FORT names folders by numbers, which don't tell whose they are."""
+    return f"rrdp/{'bb' if store == NOTIFY else 'aa'}/{host}/{path}" if store else f"rsync/{host}/{path}"
+
+
 LAYOUTS = {"plain": plain, "rpki-client": of_rpki_client, "fort": of_fort, "routinator": of_routinator}
 # Of these each server has folders of its own.
-APART = ("rpki-client", "fort", "routinator")
+APART = {**LAYOUTS, "fort by numbers": of_fort_by_numbers}
+del APART["plain"]
 
 
 class Room:
@@ -217,7 +237,8 @@ class Room:
 
     def lay_one(self, store, place, octets, layout="plain"):
         host, _, path = place.removeprefix("rsync://").partition("/")
-        self.write(os.path.join("cache", LAYOUTS[layout](store, host, path)), octets)
+        place = (LAYOUTS | APART)[layout]
+        self.write(os.path.join("cache", place(store, host, path)), octets)
 
     def stands(self, world=None):
         """FILE as it was before: nothing of interest, or what the world means."""
@@ -231,7 +252,7 @@ class Room:
     def run(self, *words, lacking="", cache=None, tals=None, moment=repository.MOMENT, programs=None):
         """A run of validate.py."""
         checker, asker = programs or self.programs
-        words = [cache or self.cache, "--tals", tals or self.tals, "--moment", moment, "--out", self.out, *words]
+        words = [cache or self.cache, "--tals", tals or self.tals, "--moment", moment, "--out", self.out, "--jobs", "1", *words]
         words += ["--checker", checker, "--asker", asker]
         how = {"env": {**os.environ, "PYTHONPATH": self.path("custom"), "LACKING": lacking}, "timeout": SECONDS}
         how |= {"capture_output": True, "text": True, "errors": "replace"}
@@ -281,34 +302,35 @@ def spelled(place):
     return place.replace(SHARED, SPELLED)
 
 
-def claimed(world, victim, notify=None, is_spelled=True):
+def claimed(world, victim, is_spelled=True, **how):
     """A certificate that names the victim's manifest as its own, with all that it publishes there; `is_spelled` in other
     letters."""
     folder = spelled(victim.folder) if is_spelled else victim.folder
-    leaf = world.attacker(name=victim.name, folder=folder, notify=notify).certified()
+    leaf = world.attacker(name=victim.name, folder=folder, **how).certified()
     leaf.add_origin("its.roa", key("ee"), ITS_AS, ITS_NETWORKS[0])
     return leaf
 
 
-def letters(room):
-    """The host in other letters: a copy that is cut, one of a certificate that names it, files that its manifest lists."""
-    for layout in LAYOUTS:
-        for victim in (0, 1):
+def letters(room, is_many):
+    """The host in other letters: a copy that is cut, and one of a certificate that names it; of an anchor's manifest, or of one
+    below."""
+    for at, layout in enumerate(LAYOUTS):
+        for place in ("anchors", "others") if is_many else (("anchors", "others")[at % 2],):
             world = World()
-            it = (world.anchors[0], world.others[0])[victim]
+            it = getattr(world, place)[0]
             world.publish()
             manifest = f"{it.folder}{it.name}.mft"
             world.objects[None, spelled(manifest)] = world.objects[None, manifest][:-100]
             room.lay(world, layout)
             room.stands()
-            room.gives(f"{layout}, a cut copy of {it.name}'s manifest", room.run("--layout", layout), WELL, world)
+            room.gives(f"{layout}, a cut copy of {it.name}'s manifest", room.run("--layout", layout.split()[0]), WELL, world)
             world = World()
-            it = (world.anchors[0], world.others[0])[victim]
+            it = getattr(world, place)[0]
             leaf = claimed(world, it)
             world.publish().add(leaf)
             room.lay(world, layout)
             room.stands()
-            done = room.run("--layout", layout)
+            done = room.run("--layout", layout.split()[0])
             room.gives(f"{layout}, a certificate that names {it.name}'s manifest", done, PARTED, world, [it.at, leaf.at])
 
 
@@ -326,17 +348,17 @@ def files(room):
     room.gives("files that its manifest lists", done, done.returncode, world)
 
 
-def servers(room):
-    """Files under other people's URIs in the folder of its own RRDP server: cut, old, and signed by itself."""
+def servers(room, is_many):
+    """Files under other people's URIs in the folder of its own RRDP server: cut, old, and signed by itself. The folder's name
+    stands in front of others, or behind them."""
     names = [f"https://a{number}.example/n.xml" for number in range(40)]
-    first = min(names, key=digest_of)
-    last = max(names, key=digest_of)
-    for layout in APART:
-        for notify in (NOTIFY, None):
-            for server in (first, last):
-                what = f"{layout}, {'RRDP' if notify else 'rsync'}, {'before' if server == first else 'behind'}"
-                of_others(room, layout, notify, server, what)
-                of_itself(room, layout, notify, server, what)
+    first, last = min(names, key=digest_of), max(names, key=digest_of)
+    ways = list(itertools.product((NOTIFY, None), (first, last)))
+    for at, layout in enumerate(APART):
+        for notify, server in ways if is_many else (ways[at],):
+            what = f"{layout}, {'RRDP' if notify else 'rsync'}, {'before' if server == first else 'behind'}"
+            of_others(room, layout, notify, server, what)
+            of_itself(room, layout, notify, server, what)
 
 
 def of_others(room, layout, notify, server, what):
@@ -351,7 +373,7 @@ def of_others(room, layout, notify, server, what):
         world.objects[server, manifest] = octets
         room.lay(world, layout)
         room.stands()
-        room.gives(f"{what}: a manifest that is {name}", room.run("--layout", layout), WELL, world)
+        room.gives(f"{what}: a manifest that is {name}", room.run("--layout", layout.split()[0]), WELL, world)
 
 
 def of_itself(room, layout, notify, server, what):
@@ -362,27 +384,27 @@ def of_itself(room, layout, notify, server, what):
     world.publish().add(leaf)
     room.lay(world, layout)
     room.stands()
-    room.gives(f"{what}: a manifest of its own", room.run("--layout", layout), PARTED, world, [it.at, leaf.at])
+    room.gives(f"{what}: a manifest of its own", room.run("--layout", layout.split()[0]), PARTED, world, [it.at, leaf.at])
 
 
 def known(room):
-    """Who had the URI in the run before keeps it, whoever comes with the better right by its host; both are told, in the
-    evidence and in FILE, too."""
+    """Who had the URI in the run before keeps it, though another's certificate is older; both are told, in the evidence and in FILE,
+    too."""
     kept = room.path("kept")
     world = room.lay(World().publish())
     room.stands()
     room.gives("before", room.run("--keep", kept), WELL, world)
     world = World()
-    leaf = claimed(world, world.anchors[0])
+    it = world.others[0]
+    leaf = claimed(world, it, first=OLDER)
     world.publish().add(leaf)
     room.lay(world)
-    done = room.run("--keep", kept, "--known", kept)
-    room.gives("known", done, PARTED, world, [leaf.at])
-    with open(os.path.join(kept, "summary.json")) as file:
-        room.tests.same("the summary names both", [one in file.read() for one in (leaf.at,)], [True])
-    with open(room.out) as file:
-        room.tests.same("metadata names it", leaf.at in json.dumps(json.load(file)["metadata"]), True)
-    shutil.rmtree(kept)
+    room.gives("known", room.run("--keep", kept, "--known", kept), PARTED, world, [it.at, leaf.at])
+    for name, path in (("the summary", os.path.join(kept, "summary.json")), ("FILE", room.out)):
+        with open(path) as file:
+            told = json.load(file)
+        rows = told.get("contested") or told["metadata"]["contested"]
+        room.tests.same(f"{name} names both", [one in json.dumps(rows) for one in (it.at, leaf.at)], [True, True])
 
 
 def example(room):
@@ -403,18 +425,18 @@ def example(room):
     room.tests.same("the example", (done.returncode, rows[0]), (WELL, rows[1]), done.stderr)
 
 
-def copies(room):
+def copies(room, is_many):
     example(room)
-    letters(room)
+    letters(room, is_many)
     files(room)
-    servers(room)
+    servers(room, is_many)
     known(room)
 
 
 # Guards.
 
 
-def guards(room):
+def guards(room, is_many):
     """What is missing keeps FILE as it was."""
     world = room.lay(World().publish())
     text = room.stands(world)
@@ -519,12 +541,12 @@ def sizes(room, is_many):
 # Faults.
 
 
-def faults(room):
+def faults(room, is_many):
     """What is missing on the machine: FILE is as it was, with a status and a message of its own."""
     world = room.lay(World().publish())
     text = room.stands(world)
     for count in (0, 3, 12):
-        done = room.run("--jobs", "1", lacking=f"verdicts.py {count}")
+        done = room.run(lacking=f"verdicts.py {count}")
         room.stays(f"a full disk after {count} files", done, FULL, text, ["disk is full"])
     room.stays("no cryptography", room.run(lacking="cryptography"), FAULT, text, ["python3-cryptography"])
     done = room.run("--memory-limit", "4")
@@ -548,15 +570,14 @@ def main():
     parser = argparse.ArgumentParser(description=__doc__, formatter_class=argparse.RawDescriptionHelpFormatter)
     parser.add_argument("program")
     parser.add_argument("asker")
-    parser.add_argument("--many", action="store_true", help="many publishers, and large objects")
+    parser.add_argument("--many", action="store_true", help="all ways in all layouts, and large objects")
     parser.add_argument("--only", default="", metavar="WORD", help="only the part of that name")
     given = parser.parse_args()
     tests, programs = Tests(), [os.path.abspath(path) for path in (given.program, given.asker)]
-    parts = {"copies": copies, "guards": guards, "faults": faults, "sizes": lambda room: sizes(room, given.many)}
-    for name, part in parts.items():
-        if given.only in name:
+    for part in (copies, guards, faults, sizes):
+        if given.only in part.__name__:
             with tempfile.TemporaryDirectory() as folder:
-                part(Room(folder, tests, programs))
+                part(Room(folder, tests, programs), given.many)
     print(f"{tests.passed} passed, {tests.failed} failed")
     return 1 if tests.failed else 0
 

@@ -44,7 +44,8 @@ OBJECT = '"name":"rsync://rpki.example/x","cause":"object","reason":"object-unre
 REASONS = '{"refused":[{"name":"rsync://rpki.example/p","cause":"point","reason":"manifest-next-update","locator":"example","chain":[]},'
 REASONS += f'{{{OBJECT},"chain":["rsync://rpki.example/a"]}},{{{OBJECT},"chain":["rsync://rpki.example/b"]}}]}}\n'
 # What stands in the place of both programs: the word in FAKE is a step and what it does there. With BUNDLE, a file, that is the
-# bundle; then `check` hangs, or lacks memory, while an object stands at one of the URIs in AT, and `cost` prints what COST has.
+# bundle; then `check` hangs, or lacks memory, while an object stands at one of the URIs in AT, and `cost` prints what COST has. With
+# ECHO `check` prints its bundle; with BY, a table, the lines of each locator's name that its bundle has.
 STAND_IN = f"""#!{sys.executable}
 import os, sys, time
 step, _, deed = os.environ.get("FAKE", "").partition(" ")
@@ -55,8 +56,14 @@ told = {{"bundle": "bundle\\n", "check": os.environ["LINES"], "cost": os.environ
 text = open(bundle, "rb").read() if bundle and asked == "bundle" else told[asked].encode()
 if bundle and asked == "check":
     octets = sys.stdin.buffer.read()
-    is_there = any(bytes((22, len(uri))) + uri.encode() in octets for uri in os.environ["AT"].split())
-    step, deed = is_there and "check", deed if step == "check" else "hangs 600"
+    if "ECHO" in os.environ:
+        text = octets
+    elif "BY" in os.environ:
+        names = eval(os.environ["BY"])
+        text = "".join(names[name] for name in names if bytes((19, len(name))) + name.encode() in octets).encode()
+    else:
+        is_there = any(bytes((22, len(uri))) + uri.encode() in octets for uri in os.environ["AT"].split())
+        step, deed = is_there and "check", deed if step == "check" else "hangs 600"
 if asked == step:
     if deed == "lacks":
         sys.stderr.write("out of memory\\n")
@@ -64,13 +71,20 @@ if asked == step:
     if deed == "fails":
         sys.stdout.buffer.write(text[:20])
         sys.exit(2 if asked == "cost" else 1)
+    if deed == "eats":
+        taken = bytearray(b"1") * (300 << 20)
+        time.sleep(600)
     if deed == "dies":
         os.kill(os.getpid(), 9)
     if deed.startswith("hangs") and sys.argv[2:] != ["10000"]:
         open(os.environ["READY"], "w").close()
         time.sleep(float(deed.split(" ")[1]))
-sys.stdout.buffer.write(text)
-sys.stdout.flush()
+try:
+    while text:
+        text = text[os.write(1, text):]
+except OSError:
+    os.write(2, b"write fault\\n")
+    os._exit(1)
 sys.exit(asked == "cost")
 """
 # Kills the run at the N-th call of a function of os, before or after what it does.
