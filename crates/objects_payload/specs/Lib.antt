@@ -1,6 +1,7 @@
 pub mod Lines
 pub mod Uris
 pub mod Faults
+pub mod Counts
 pub mod Tals
 pub mod Identifiers
 pub mod SignedAttributes

@@ -1,5 +1,5 @@
 //! Readers and writers that count their failures.
-ghost use Rattle.rpki_validator.specs.Counts.{CountsErrors, CountsStops, one_more};
+ghost use Rattle.objects_payload.specs.Counts.{CountsErrors, CountsStops, one_more};
 ghost use Rattle.std.specs.Io.KnownBytes.{Keeps, ReadConsumes, WriteAppends};
 ghost use Rattle.std.specs.Io.{ReadsAtMost, WritesAtMost};
 ghost use Rattle.std.specs.Prelude.{◌≡◌};
