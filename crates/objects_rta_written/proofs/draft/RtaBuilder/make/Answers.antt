@@ -12,4 +12,4 @@ returns-clause-refused g c =
     (λ (o : List ℕ).
     IfErr c.signer_for.result (BuildRefused (g.S.Signer.refuses c.args.signer.now) (CanTell tagged_attestation)
     (CannotAdd (digests_of g.D.Digester.sha256_digest g.D.Digester.sha1_digest c.args.digester.now) (g.S.Signer.has_key c.args.signer.now c.args.key.now) (g.S.Signer.signs c.args.signer.now c.args.key.now) (to_sign tagged_attestation (g.D.Digester.sha256_digest c.args.digester.now o) c.args.signing_time))))
-    (c.octets_of-content.ensures ∙ ap (λ (d : Draft). d.octets) c.self.view_is) c.signer_for.ensures.refused
+    (c.octets_of-content.ensures ∙ c.octets.ensures ∙ ap (λ (d : Draft). d.octets) c.self.view_is) c.signer_for.ensures.refused
