@@ -12,4 +12,4 @@ returns-clause-refused g c =
     (λ (o : List ℕ).
     IfErr c.signer_for.result (SignerRefused (refusals_of g.S.Signer.refuses_key g.S.Signer.refuses g.S.Signer.refuses_once c.args.signer.now c.args.key.now)
     (digests_of g.D.Digester.sha256_digest g.D.Digester.sha1_digest c.args.digester.now) (g.S.Signer.has_key c.args.signer.now c.args.key.now) (g.S.Signer.signs c.args.signer.now c.args.key.now) (to_sign tagged_attestation (g.D.Digester.sha256_digest c.args.digester.now o) c.args.signing_time)))
-    (c.octets_of-content.ensures ∙ ap (λ (d : Draft). d.octets) c.self.view_is) c.signer_for.ensures.refused
+    (c.octets_of-content.ensures ∙ c.octets.ensures ∙ ap (λ (d : Draft). d.octets) c.self.view_is) c.signer_for.ensures.refused
