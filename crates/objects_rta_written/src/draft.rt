@@ -13,26 +13,27 @@ ghost use Rattle.objects_rta.specs.objects_cms.Signer.{signer_fields};
 ghost use Rattle.objects_rta_written.specs.Contents.{AttestationRefused};
 ghost use Rattle.objects_rta_written.specs.Lending.{LendsCerts, LendsCrls, LendsSigners};
 
+mod said;
 mod signing;
 
 use crate::attestation::EncodeAttestation;
+use crate::draft::said::Said;
 use crate::draft::signing::signer_for;
 use crate::signer::octets_of;
 use bytes::Bytes;
 use certs::written::{EncodeError, Time};
 use certs_cert::Cert;
 use certs_key::oid::CT_RESOURCE_TAGGED_ATTESTATION;
-use certs_key::{Digester, OctetString, Oid, Signer, SigningError};
+use certs_key::{Digester, Oid, Signer, SigningError};
 use objects_rta::{Crl, MultiSignedObject, ResourceTaggedAttestation, Rta, SignerInfo};
 use std::alloc::{AllocError, Global};
 use std::marker::Model;
 
-/// An attestation that is being signed: what it says with its octets, and the certificates, revocation lists and signers that it
-/// will carry. Contracts see all of it.
+/// An attestation that is being signed: what it says with its octets, which always say so, and the certificates, revocation
+/// lists and signers that it will carry. Contracts see all of it.
 #[derive(Drop)]
 pub struct RtaBuilder {
-    content: ResourceTaggedAttestation,
-    octets: OctetString,
+    said: Said,
     certs: Vec<Cert>,
     crls: Vec<Crl>,
     signers: Vec<SignerInfo>,
@@ -45,8 +46,8 @@ impl Model for RtaBuilder {
     ghost Value = { Draft };
 
     ghost view = { λ b. record {
-      content = b.content;
-      octets = b.octets;
+      content = b.said.content;
+      octets = b.said.octets;
       certs = b.certs.items;
       crls = b.crls.items;
       signers = signers_seen b.signers.items;
@@ -65,8 +66,7 @@ impl RtaBuilder {
     {
         match attestation.to_captured(alloc) {
             Ok(octets) => Ok(RtaBuilder {
-                content: attestation,
-                octets: OctetString::new(octets.into_bytes()),
+                said: Said::of_written(attestation, octets),
                 certs: Vec::new(alloc),
                 crls: Vec::new(alloc),
                 signers: Vec::new(alloc),
@@ -91,8 +91,7 @@ impl RtaBuilder {
         let (signed, content) = rta.into_parts();
         let (octets, certs, crls, signers) = signed.into_parts();
         RtaBuilder {
-            content,
-            octets,
+            said: Said::new(content, octets),
             certs,
             crls,
             signers,
@@ -103,7 +102,7 @@ impl RtaBuilder {
     pub fn content(&self) -> &ResourceTaggedAttestation
         ensures { result.now ≡ self.now.content }
     {
-        &self.content
+        self.said.content()
     }
 
     /// One more certificate to be carried. On an error nothing changes.
@@ -224,7 +223,7 @@ impl RtaBuilder {
             (signs (digests_of D.sha256_digest D.sha1_digest digester.now)
             self.now signing_time)) }
     {
-        let content = octets_of(&self.octets);
+        let content = octets_of(self.said.octets());
         signer_for(alloc, content, signing_time, signer, key, digester)
     }
 
@@ -250,12 +249,12 @@ impl RtaBuilder {
         ensures content { result.content ≡ self.content }
     {
         let RtaBuilder {
-            content,
-            octets,
+            said,
             certs,
             crls,
             signers,
         } = self;
+        let (content, octets) = said.into_parts();
         let content_type = Oid(Bytes::from_static(CT_RESOURCE_TAGGED_ATTESTATION.0));
         let signed = MultiSignedObject::new(content_type, octets, certs, crls, signers);
         Rta::from_parts(signed, content)
