@@ -9,7 +9,7 @@ use Rattle.certs.specs.certs_key.declared.signer.SigningError.{SigningError}
 use Rattle.certs.specs.certs_key.declared.signer.SigningError.TheVariants as errors
 use Rattle.certs.specs.certs_extension.Cert.{TbsValue}
 use Rattle.certs_x509.proofs.Few.{few_octets}
-use Rattle.certs.specs.Signing.{CanBeWritten, NotWritten, SigningRefused}
+use Rattle.certs.specs.Signing.{NotWritten, SigningRefused}
 use Rattle.certs.specs.Tbs.{WritesTbs, tbs}
 
 -- Why nothing was written.

@@ -1,5 +1,5 @@
 -- Why nothing is signed of a content, from one call to the next.
-use Rattle.std.proofs.Common.{◌≡◌, inl, inr, ℕ, List, Result, IfErr, refl, sym, subst}
+use Rattle.std.proofs.Common.{◌≡◌, ◌⊎◌, inl, inr, ℕ, List, Result, Ok, Err, IfErr, refl, sym, subst}
 use Rattle.objects.specs.bcder_tree.declared.mode.Mode.TheVariants.{Der}
 use Rattle.objects.specs.bcder_primitive.declared.written.error.EncodeError.{EncodeError}
 use Rattle.objects.specs.bcder_primitive.declared.written.error.EncodeError.TheVariants as causes
@@ -8,6 +8,7 @@ use Rattle.objects.specs.bcder_values.Writable.{Writable}
 use Rattle.objects.specs.certs_basics.HandedIn.{Digests}
 use Rattle.objects.specs.certs_basics.Keys.{KeyValue}
 use Rattle.objects.specs.certs_key.declared.signer.SigningError.{SigningError}
+use Rattle.objects.specs.certs_key.declared.signer.SigningError.TheVariants as errors
 use Rattle.objects.specs.certs.Outputs.{Output}
 use Rattle.objects_written.specs.Builders.{BuilderValue}
 use Rattle.objects_written.specs.Refusing.{BuildRefused, CanTell, IsTooLong, ObjectRefused, Refusals, RefusesObject, told_as}
@@ -42,3 +43,8 @@ module _ {E : Type 0} (refusals : Refusals E) (d : Digests) (HasKey : KeyValue �
       passed (RefusesObject refusals d fields kind octets HasKey SignsOnce) (RefusesContent refusals d HasKey SignsOnce kind P Fields) (CanTell kind) (CanWrite P)
       (IsTooLong d fields kind octets HasKey SignsOnce) (CannotSignContent d HasKey SignsOnce kind P Fields) (λ e x. (octets, own, fields, are, x))
       (λ u. (octets, own)) (λ x. inr (octets, own, fields, are, x))
+
+-- Where memory was wanted before.
+pub or_before : {A E : Type 0} (P : SigningError E → Type 0) (r : Result A (SigningError E)) → IfErr r P → IfErr r (λ e. (e ≡ errors.Memory) ⊎ P e)
+or_before P (Ok x) h = tt
+or_before P (Err e) h = inr h

@@ -4,7 +4,6 @@ use Rattle.std.specs.Result.{IsErr, IsErrAnd}
 use Rattle.objects_written.specs.bcder_tree.declared.mode.Mode.TheVariants.{Der}
 use Rattle.objects_written.specs.bcder_primitive.declared.written.error.EncodeError.{EncodeError}
 use Rattle.objects_written.specs.bcder_primitive.declared.written.error.EncodeError.TheVariants as errors
-use Rattle.objects_written.specs.bcder_primitive.Writing.{HasLength}
 use Rattle.objects_written.specs.bcder_values.Gathered.{ExtendRefused}
 use Rattle.certs.specs.Outputs.{Output}
 use Rattle.objects_written.specs.Attributes.{IsRefused, ToSign, WritesAttributes, content_type, message_digest, signing_time}

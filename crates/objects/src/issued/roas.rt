@@ -1,8 +1,9 @@
 //! Route origin attestations that are signed (RFC 9582 3, 5).
 
-ghost use Rattle.std.specs.Prelude.{◌≡◌, IfErr, IfOk};
+ghost use Rattle.std.specs.Prelude.{◌≡◌, ◌⊎◌, IfErr, IfOk};
 ghost use Rattle.objects.specs.bcder_tree.declared.mode.Mode.TheVariants.{Der};
 ghost use Rattle.objects.specs.certs_key.Digesting.{digests_of};
+ghost use Rattle.objects.specs.certs_key.declared.signer.SigningError.TheVariants.{Memory as no_memory};
 ghost use Rattle.objects.specs.objects_payload.Roas.{Roa};
 ghost use Rattle.objects.specs.objects_contents.Roas.{roa};
 ghost use Rattle.objects.specs.resources_chain.declared.choice.ResourcesChoice.TheVariants.{Missing};
@@ -11,7 +12,7 @@ ghost use Rattle.objects_payload.specs.Addresses.{AllOf};
 ghost use Rattle.objects_written.specs.Builders.{IsSigned};
 ghost use Rattle.objects_written.specs.Refusing.{BuildRefused, refusals_of};
 ghost use Rattle.objects.specs.bcder_values.Writable.{Writable};
-ghost use Rattle.objects.specs.Refusing.{CanWrite, CannotSignContent, ContentRefused, RefusesContent};
+ghost use Rattle.objects.specs.Refusing.{CanWrite, ContentRefused};
 ghost use Rattle.objects.specs.objects_payload.Identifiers as id;
 ghost use Rattle.objects.specs.Issued.{AttestsPrefixes, IsRoaFor};
 
@@ -159,16 +160,12 @@ pub trait FinalizeRoa: Sized {
             c.octets) × IsSigned (S.has_key signer.now issuer_key.now)
             (S.signs signer.now issuer_key.now) (S.signs_once signer.now) x.built) }
         ensures mode { IfOk result (λ c. c.mode ≡ Der) }
-        ensures refused { IfErr result (BuildRefused (RefusesContent
+        ensures refused { IfErr result (λ e. (e ≡ no_memory) ⊎ ContentRefused
             (refusals_of S.refuses_key S.refuses S.refuses_once signer.now issuer_key.now)
             (digests_of D.sha256_digest D.sha1_digest digester.now)
             (S.has_key signer.now issuer_key.now) (S.signs_once signer.now)
             id.route_origin ((roa (content self)).writes Der)
-            (AttestsPrefixes builder (content self))) (Unit {0}) (CannotSignContent
-            (digests_of D.sha256_digest D.sha1_digest digester.now)
-            (S.has_key signer.now issuer_key.now) (S.signs_once signer.now)
-            id.route_origin ((roa (content self)).writes Der)
-            (AttestsPrefixes builder (content self)))) };
+            (AttestsPrefixes builder (content self)) e) };
 }
 
 impl FinalizeRoa for RoaBuilder {
