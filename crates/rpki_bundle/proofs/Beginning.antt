@@ -34,20 +34,20 @@ found_err (Ok x) p = tt
 found_err (Err e) p = wanted e p
 
 -- An error that isn't lack of memory, handed on.
-pub none_wanted : {A E P : Type 0} (r : Result A (DecodeError E)) (e : DecodeError E) → IsErr r × IsErrAnd r (λ x. x ≡ e) → e ≢ Memory → Found r P
-none_wanted (Ok x) e a n = absurd a.0
-none_wanted (Err (Content x pos)) e a n = tt
-none_wanted (Err (Source x)) e a n = tt
-none_wanted (Err Memory) e a n = absurd (n (sym a.1))
+pub none_wanted : {A E : Type 0} (P : Type 0) (r : Result A (DecodeError E)) (e : DecodeError E) → IsErr r × IsErrAnd r (λ x. x ≡ e) → e ≢ Memory → Found r P
+none_wanted P (Ok x) e a n = absurd a.1
+none_wanted P (Err (Content x pos)) e a n = tt
+none_wanted P (Err (Source x)) e a n = tt
+none_wanted P (Err Memory) e a n = absurd (n (sym a.1))
 
 -- What an error shows, handed on.
-pub wants_on : {A E P : Type 0} (r : Result A (DecodeError E)) (e : DecodeError E) → IsErr r × IsErrAnd r (λ x. x ≡ e) → OnMemory e P → IfErr r (λ (x : DecodeError E). OnMemory x P)
-wants_on (Ok x) e a h = tt
-wants_on {E = E} {P} (Err x) e a h = subst (λ (y : DecodeError E). OnMemory y P) (sym a.1) h
+pub wants_on : {A E : Type 0} (P : Type 0) (r : Result A (DecodeError E)) (e : DecodeError E) → IsErr r × IsErrAnd r (λ x. x ≡ e) → OnMemory e P → IfErr r (λ (x : DecodeError E). OnMemory x P)
+wants_on P (Ok x) e a h = tt
+wants_on {E = E} P (Err x) e a h = subst (λ (y : DecodeError E). OnMemory y P) (sym a.1) h
 
 -- Fields that were read, one after the other.
-pub begins : {v one two three four : ValuesLeft} {number moment depth : ℕ} (version : Version) → Gives IsNumber v number one → Gives IsMomentString one moment two → Gives IsDepthNumber two depth three → GivesFlag number version three four → BeginsFields v
-begins {v} {one} {two} {three} {four} {number} {moment} {depth} version n m d f = record {
+pub begins : {v one two three : ValuesLeft} {number moment depth : ℕ} (version : Version) (four : ValuesLeft) → Gives IsNumber v number one → Gives IsMomentString one moment two → Gives IsDepthNumber two depth three → GivesFlag number version three four → BeginsFields v
+begins {v} {one} {two} {three} {number} {moment} {depth} version four n m d f = record {
   number = number;
   moment = moment;
   depth = depth;
@@ -104,7 +104,7 @@ begun {S = S} {rest = rest} v (Err Memory) each h =
     subst BeginsBundle h.ran.starts (subst (λ (w : Constructed S). BeginsBundle (here rest w)) met.shows (each.each met.shown met.left (Err Memory) met.met))
 
 -- What lack of memory shows, by the error of the call.
-pub told_no_memory : {E P : Type 0} (e : DecodeError E) (r : BundleError) → Refuses e r → OnMemory e P → OnNoMemory r P
-told_no_memory {P = P} (Content x pos) r i h = subst (λ (z : BundleError). OnNoMemory z P) (sym i) tt
-told_no_memory (Source x) r i h = absurd i
-told_no_memory {P = P} Memory r i h = subst (λ (z : BundleError). OnNoMemory z P) (sym i) h
+pub told_no_memory : {E : Type 0} (P : Type 0) (e : DecodeError E) (r : BundleError) → Refuses e r → OnMemory e P → OnNoMemory r P
+told_no_memory P (Content x pos) r i h = subst (λ (z : BundleError). OnNoMemory z P) (sym i) tt
+told_no_memory P (Source x) r i h = absurd i
+told_no_memory P Memory r i h = subst (λ (z : BundleError). OnNoMemory z P) (sym i) h

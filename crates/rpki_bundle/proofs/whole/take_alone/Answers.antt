@@ -30,7 +30,7 @@ returns-clause-reads g c =
     subst (λ (v : ValuesLeft). GivesAll (IsBundleAlone m) (here g.S.Source.rest c.args.cons.now) (parts_alone c.in_ok-parts.parts) v × Ended v) (sym end.0) (done (next (begin _ _) c.in_ok-parts.ensures.reads), end.1)
 
 pub returns-in_err-parts-clause-memory : goal.returns-in_err-parts-clause-memory
-returns-in_err-parts-clause-memory g c = wants_on _ _ c.from_residual.ensures c.in_err-parts.ensures.begins
+returns-in_err-parts-clause-memory g c = wants_on _ _ _ c.from_residual.ensures c.in_err-parts.ensures.begins
 
 pub returns-in_err-behind-clause-memory : goal.returns-in_err-behind-clause-memory
 returns-in_err-behind-clause-memory g c = found_err _ c.in_ok-parts.ensures.begins

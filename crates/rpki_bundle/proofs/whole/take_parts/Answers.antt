@@ -102,25 +102,25 @@ returns-clause-reads g c =
 -- What is in front, where a read is refused for memory or all was read.
 
 pub returns-in_err-number-clause-begins : goal.returns-in_err-number-clause-begins
-returns-in_err-number-clause-begins g c = none_wanted _ _ c.from_residual.ensures c.in_err-number.ensures.no_memory
+returns-in_err-number-clause-begins g c = none_wanted _ _ _ c.from_residual.ensures c.in_err-number.ensures.no_memory
 
 pub returns-in_err-moment-clause-begins : goal.returns-in_err-moment-clause-begins
-returns-in_err-moment-clause-begins g c = none_wanted _ _ c.from_residual-in_err-moment.ensures c.in_err-moment.ensures.no_memory
+returns-in_err-moment-clause-begins g c = none_wanted _ _ _ c.from_residual-in_err-moment.ensures c.in_err-moment.ensures.no_memory
 
 pub returns-in_err-depth-clause-begins : goal.returns-in_err-depth-clause-begins
-returns-in_err-depth-clause-begins g c = none_wanted _ _ c.from_residual-in_err-depth.ensures c.in_err-depth.ensures.no_memory
+returns-in_err-depth-clause-begins g c = none_wanted _ _ _ c.from_residual-in_err-depth.ensures c.in_err-depth.ensures.no_memory
 
 pub returns-in_err-entries-clause-begins : goal.returns-in_err-entries-clause-begins
-returns-in_err-entries-clause-begins g c = found _ (begins version.Zero c.in_ok-number.ensures.reads c.in_ok-moment.ensures.reads c.in_ok-depth.ensures.reads (c.if-number-eq0.true, refl))
+returns-in_err-entries-clause-begins g c = found _ (begins version.Zero _ c.in_ok-number.ensures.reads c.in_ok-moment.ensures.reads c.in_ok-depth.ensures.reads (c.if-number-eq0.true, refl))
 
 pub returns-then-number-eq0-clause-begins : goal.returns-then-number-eq0-clause-begins
-returns-then-number-eq0-clause-begins g c = begins version.Zero c.in_ok-number.ensures.reads c.in_ok-moment.ensures.reads c.in_ok-depth.ensures.reads (c.if-number-eq0.true, refl)
+returns-then-number-eq0-clause-begins g c = begins version.Zero _ c.in_ok-number.ensures.reads c.in_ok-moment.ensures.reads c.in_ok-depth.ensures.reads (c.if-number-eq0.true, refl)
 
 pub returns-in_err-relaxed-clause-begins : goal.returns-in_err-relaxed-clause-begins
-returns-in_err-relaxed-clause-begins g c = none_wanted _ _ c.from_residual-in_err-relaxed.ensures c.in_err-relaxed.ensures.no_memory
+returns-in_err-relaxed-clause-begins g c = none_wanted _ _ _ c.from_residual-in_err-relaxed.ensures c.in_err-relaxed.ensures.no_memory
 
 pub returns-in_err-entries-2-clause-begins : goal.returns-in_err-entries-2-clause-begins
-returns-in_err-entries-2-clause-begins g c = found _ (begins (version.One c.in_ok-relaxed.relaxed) c.in_ok-number.ensures.reads c.in_ok-moment.ensures.reads c.in_ok-depth.ensures.reads (c.if-number-ne1.false, c.in_ok-relaxed.ensures.reads))
+returns-in_err-entries-2-clause-begins g c = found _ (begins (version.One c.in_ok-relaxed.relaxed) _ c.in_ok-number.ensures.reads c.in_ok-moment.ensures.reads c.in_ok-depth.ensures.reads (c.if-number-ne1.false, c.in_ok-relaxed.ensures.reads))
 
 pub returns-clause-begins : goal.returns-clause-begins
-returns-clause-begins g c = begins (version.One c.in_ok-relaxed.relaxed) c.in_ok-number.ensures.reads c.in_ok-moment.ensures.reads c.in_ok-depth.ensures.reads (c.if-number-ne1.false, c.in_ok-relaxed.ensures.reads)
+returns-clause-begins g c = begins (version.One c.in_ok-relaxed.relaxed) _ c.in_ok-number.ensures.reads c.in_ok-moment.ensures.reads c.in_ok-depth.ensures.reads (c.if-number-ne1.false, c.in_ok-relaxed.ensures.reads)

@@ -14,4 +14,4 @@ pub returns-in-Err-clause-not_a_bundle : goal.returns-in-Err-clause-not_a_bundle
 returns-in-Err-clause-not_a_bundle c = refused_text _ c.in-Err.error c.refusal.result c.refusal.ensures c.in-Err.ensures.tells
 
 pub returns-in-Err-clause-memory : goal.returns-in-Err-clause-memory
-returns-in-Err-clause-memory c = told_no_memory c.in-Err.error c.refusal.result c.refusal.ensures c.in-Err.ensures.memory
+returns-in-Err-clause-memory c = told_no_memory _ c.in-Err.error c.refusal.result c.refusal.ensures c.in-Err.ensures.memory
