@@ -40,10 +40,10 @@ none_failed_of name before after failures text (Err BadKeyInfo) same reads = sam
 none_failed_of name before after failures text (Err Memory) same reads = same
 
 -- Why a reader's text wasn't had is told as it is.
-pub stopped_of : {A B : Type 0} (before after : Option (List ℕ)) (failures : Counts) (e : ReadError) → FailsAtIo {A} before after failures (Err e) → FailsAtIo {B} before after failures (Err e)
-stopped_of before after failures Io f = f
-stopped_of before after failures UnexpectedEof f = f
-stopped_of before after failures BadUri f = f
-stopped_of before after failures BadKeyInfoEncoding f = f
-stopped_of before after failures BadKeyInfo f = f
-stopped_of before after failures Memory f = f
+pub stopped_of : (A B : Type 0) (before after : Option (List ℕ)) (failures : Counts) (e : ReadError) → FailsAtIo {A = A} before after failures (Err e) → FailsAtIo {A = B} before after failures (Err e)
+stopped_of A B before after failures Io f = f
+stopped_of A B before after failures UnexpectedEof f = f
+stopped_of A B before after failures BadUri f = f
+stopped_of A B before after failures BadKeyInfoEncoding f = f
+stopped_of A B before after failures BadKeyInfo f = f
+stopped_of A B before after failures Memory f = f

@@ -14,7 +14,7 @@ returns-clause-reads g c = named_is c.args.name _ _ c.in_ok-text.text.items c.as
 pub returns-in_err-text-clause-failures : goal.returns-in_err-text-clause-failures
 returns-in_err-text-clause-failures g c =
     passed c.from_residual.result c.in_err-text.field-0.0 c.from_residual.ensures (λ r. FailsAtIo (g.R.Read.remaining c.args.reader.now.inner) (g.R.Read.remaining c.take_text.new.reader.inner) _ r)
-    (stopped_of _ _ _ c.in_err-text.field-0.0 c.in_err-text.ensures.failures)
+    (stopped_of _ _ _ _ _ c.in_err-text.field-0.0 c.in_err-text.ensures.failures)
 
 pub returns-clause-failures : goal.returns-clause-failures
 returns-clause-failures g c = none_failed_of c.args.name _ _ _ _ c.from_text.result c.in_ok-text.ensures.failures c.from_text.ensures.reads
