@@ -32,9 +32,9 @@ use Rattle.resources_ip.specs.WrittenFamilies.{both, says_any}
 use Rattle.resources_ip.proofs.BothFamilies.{families_again}
 use Rattle.resources_ip.proofs.Fitting.{families_fit}
 use Rattle.certs.specs.Resources.{said_families}
-use Rattle.objects_written.specs.Outputs.{beside, each, of, perhaps}
+use Rattle.objects_contents.specs.Outputs.{beside, each, of, perhaps}
 use Rattle.objects_written.specs.Frames.{algorithm, sha256}
-use Rattle.objects_written.proofs.Words.{inside_of, last_of, then_of}
+use Rattle.objects_contents.proofs.Words.{inside_of, last_of, then_of}
 use Rattle.objects_rta.specs.objects_valid.Stated.{AreListed, AreParts, AreStated, AreStatedFamilies, IsAsPart, IsStated, Parts, SaysSome, Stated, asn_of, families_of, stated_of}
 use Rattle.objects_rta.specs.objects_valid.declared.stated.AsForm.TheVariants.{BlocksAlone}
 use Rattle.objects_rta.proofs.of_objects_valid.Parts.{own_asn, own_v4, own_v6}

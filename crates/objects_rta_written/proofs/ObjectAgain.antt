@@ -11,7 +11,7 @@ use Rattle.objects_written.specs.certs_extension.CrlText.{CrlValue, SpellsCrl}
 use Rattle.objects_written.specs.objects_payload.ObjectText.{Signer, SignerFields, SpellsSigner, signer_of}
 use Rattle.objects_written.specs.objects_payload.SignedAttributes.{AreAttributes, AttributesValue}
 use Rattle.objects_written.specs.Frames.{signer}
-use Rattle.objects_written.specs.Outputs.{each}
+use Rattle.objects_contents.specs.Outputs.{each}
 use Rattle.objects_rta.specs.Several.{Perhaps, PerhapsCases, Repeats, RepeatsCases, Several}
 use Rattle.objects_rta.specs.Carried.{SpellsCrls}
 use Rattle.objects_rta.specs.MultiText.{InfoFields, Multi, MultiFields, MultiText, SignsType, SpellsMultiInfo, lists_of, multi_of}

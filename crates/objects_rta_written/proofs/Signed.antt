@@ -16,8 +16,8 @@ use Rattle.objects_written.specs.certs_basics.Identifiers.{sha256_with_rsa}
 use Rattle.objects_written.specs.certs_extension.Cert.{CertValue}
 use Rattle.objects_written.specs.certs_extension.CertText.{SpellsCert, SpellsSigned, as_signed}
 use Rattle.objects_written.specs.certs_extension.CrlText.{CrlValue, SpellsCrl}
-use Rattle.objects_written.specs.Outputs.{of}
-use Rattle.objects_written.proofs.Words.{spelled_of}
+use Rattle.objects_contents.specs.Outputs.{of}
+use Rattle.objects_contents.proofs.Words.{spelled_of}
 use Rattle.objects_rta_written.specs.Again.{IsCertInDer, IsCrlInDer, IsReadableCert, IsReadableCrl}
 use Rattle.objects_rta_written.specs.Frames.{cert, crl, signed, value_of}
 use Rattle.objects_written.proofs.FrameAgain.{by_trees, ends_of, joins_of, only, wraps_of}

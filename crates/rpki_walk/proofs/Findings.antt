@@ -1,5 +1,6 @@
 -- What files and chains tell, and what the walk gains by them.
-use Rattle.std.proofs.Common.{◌≡◌, ℕ, ◌<◌, ◌≤◌, ◌⊎◌, ◌↔◌, true, List, [], ◌∷◌, ◌++◌, length, Option, Some, None, refl, sym, ap, subst, ◌∙◌, inl, inr, arith}
+use Rattle.std.proofs.Common.{◌≡◌, ℕ, ◌<◌, ◌≤◌, ◌⊎◌, ◌↔◌, true, List, [], ◌∷◌, ◌++◌, length, Option, Some, None, Result, IfOk, refl, sym, ap, subst, ◌∙◌, inl, inr, arith}
+use Rattle.std.proofs.lemmas.Result.{IfOk-weaker}
 use Rattle.rpki_walk.specs.resources.Resources.{Resources}
 use Rattle.rpki_rules.specs.Certs.{Cert, ca_is_ca}
 use Rattle.rpki_rules.specs.Objects.{Object}
@@ -15,8 +16,10 @@ use Rattle.rpki_rules.proofs.Fronts.{front_itself, front_up, front_cases, accept
 use Rattle.rpki_rules.specs.Views.{PathValue}
 use Rattle.rpki_rules.specs.Attests.{Payload, OfRoa, OfAspa, PayloadText, WitnessValue, IsGood}
 use Rattle.rpki_rules.specs.Refused.{IsFileRefused, IsBadCer, IsBadPayload, IsIssued}
-use Rattle.rpki_walk.specs.Repository.{IsIgnored, HasKept, IsRead}
-use Rattle.rpki_walk.specs.Facts.{Finding, Refuses, Shows, Originates, Provides, Reaches, Chains, Diagnoses, Unheld, ShownBy, ReachedBy, RefusedBy, TellsFile, Tells, Found, Stand, FromFile, Classified, Gains, Walks}
+use Rattle.rpki_walk.specs.Repository.{IsIgnored, HasKept, IsFileKind, IsRead}
+use Rattle.rpki_walk.specs.Facts.{Finding, Refuses, Shows, Originates, Provides, Reaches, Chains, Diagnoses, Unheld, ShownBy, ReachedBy, RefusedBy, TellsFile, Tells, Found, Stand, FromFile, Classified, ComesOf, Gains, Walks}
+use Rattle.rpki_walk.specs.declared.repository.FileKind.{FileKind}
+use Rattle.rpki_walk.specs.declared.repository.FileKind.TheVariants as Is
 use Rattle.rpki_walk.specs.declared.chains.Outcome.{Outcome}
 use Rattle.rpki_walk.specs.declared.chains.Outcome.TheVariants as Does
 use Rattle.rpki_walk.proofs.Mems.{gains_same, gains_none, gains_more}
@@ -372,3 +375,26 @@ module _ {A P : Type 0} (cert : A → Cert) (sets : A → Resources) (payload : 
       let em1 : more ≡ (cert c).tbs.subject_key_identifier ∷ on = em ∙ ap (λ (z : List ℕ). z ∷ on) k in
       let w1 = subst (λ (z : World). Walks wants uris z longer more file (cert c) (sets c) old new) ev walked in
       gains_child wants uris w name a cs path on uri ca csets st p file (cert c) (sets c) longer more old new acc s m1 q.0 on1 q.3 q.4 el em1 w1
+
+-- What is done with a file by what it is, is what is said of it.
+class_of : {A P : Type 0} (cert : A → Cert) (sets : A → Resources) (payload : P → Payload) (w : World) (held : Kind → ℕ → Type 0) (ca : Cert) (p : Point) (on : List (List ℕ)) (uri : List ℕ) (kind : FileKind A P) → IsFileKind cert sets payload w held ca p uri kind → (o : Outcome A P) → ComesOf cert w.depth on kind o → Classified cert sets payload w held ca p on uri o
+class_of {A = A} {P = P} cert sets payload w held ca p on uri kind read o comes = said kind read comes
+  where
+    at : (q : Outcome A P) → o ≡ q → Classified cert sets payload w held ca p on uri q → Classified cert sets payload w held ca p on uri o
+    at q e c = subst (λ (z : Outcome A P). Classified cert sets payload w held ca p on uri z) (sym e) c
+
+    said : (k : FileKind A P) → IsFileKind cert sets payload w held ca p uri k → ComesOf cert w.depth on k o → Classified cert sets payload w held ca p on uri o
+    said Is.Nothing r e = at Does.Nothing e r
+    said Is.Bad r e = at (Does.Refused cause.Object) e r
+    said (Is.Attests x) r e = at (Does.Attests x) e r
+    said (Is.Child a) r (inl l) = at (Does.Refused cause.Loop) l.1 (cert a, r.0, l.0)
+    said (Is.Child a) r (inr n) = elim n.1 [
+      | inl d ↦ at (Does.Refused cause.Depth) d.1 (cert a, r.0, n.0, d.0)
+      | inr d ↦ at (Does.Child a (cert a).tbs.subject_key_identifier) d.1 (r.0, refl, n.0, d.0, r.1)
+    ]
+
+-- The same of a file that was read in one world and is looked at in another, which is the same.
+pub class_read : {A P E : Type 0} (cert : A → Cert) (sets : A → Resources) (payload : P → Payload) (w w' : World) → w' ≡ w → (held : Kind → ℕ → Type 0) (ca : Cert) (p : Point) (on : List (List ℕ)) (uri : List ℕ) (kind : FileKind A P) → IsFileKind cert sets payload w held ca p uri kind → (r : Result (Outcome A P) E) → IfOk r (ComesOf cert w'.depth on kind) → IfOk r (Classified cert sets payload w held ca p on uri)
+class_read cert sets payload w w' same held ca p on uri kind read r comes =
+    let moved = subst (λ (v : World). IfOk r (ComesOf cert v.depth on kind)) same comes in
+    IfOk-weaker r (ComesOf cert w.depth on kind) (Classified cert sets payload w held ca p on uri) (class_of cert sets payload w held ca p on uri kind read) moved

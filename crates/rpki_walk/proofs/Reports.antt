@@ -1,5 +1,5 @@
 -- What is told is what is attested and refused, and so the findings make the report.
-use Rattle.std.proofs.Common.{◌≡◌, ℕ, ◌+◌, ◌⊎◌, ◌↔◌, List, [], ◌∷◌, ◌++◌, map, Vec, Global, length, refl, sym, ap, subst, ◌∙◌, inl, inr}
+use Rattle.std.proofs.Common.{◌≡◌, ℕ, ◌+◌, ◌↔◌, List, [], ◌∷◌, ◌++◌, map, Vec, Global, length, refl, sym, ap, subst, ◌∙◌, inl, inr}
 use Rattle.rpki_rules.specs.declared.cause.Cause.{Cause}
 use Rattle.rpki_rules.specs.declared.cause.Cause.TheVariants as cause
 use Rattle.rpki_rules.specs.Certs.{Cert}
@@ -14,17 +14,16 @@ use Rattle.rpki_rules.specs.Lines.{Customer, Refusal}
 use Rattle.rpki_rules.specs.Output.{AreCustomers, IsCustomer}
 use Rattle.rpki_rules.specs.Report.{ReportValue, IsReportOf, IsReport, AreCustomersOf, IsCustomerOf}
 use Rattle.rpki_rules.specs.Views.{PathValue, origin_of, provision_of, refusal_of, witness_of}
-use Rattle.rpki_rules.proofs.Orders.{mem_append, each_at, each_of}
-use Rattle.rpki_rules.proofs.Groups.{map_push, customers_to}
-use Rattle.rpki_rules.specs.declared.refusal.Refusal.{Refusal as CodeRefusal}
+use Rattle.rpki_rules.proofs.Orders.{each_at, each_of}
+use Rattle.rpki_rules.proofs.Groups.{customers_to}
 use Rattle.rpki_rules.specs.declared.witness.Witness.{Witness as CodeWitness}
-use Rattle.rpki_rules.specs.declared.origin.Origin.{Origin as CodeOrigin}
-use Rattle.rpki_rules.specs.declared.customer.Provision.{Provision as CodeProvision}
 use Rattle.rpki_walk.specs.declared.whole.Findings.{Findings}
 use Rattle.rpki_walk.specs.Facts.{Finding, Refuses, Shows, Originates, Provides, Reaches, Chains, Diagnoses, Unheld, ShownBy, ReachedBy, RefusedBy, IsFinding, Gains}
+use Rattle.rpki_walk.specs.Alike.{IsPrinted}
 use Rattle.rpki_walk.specs.Lines.{has_found, IsLine}
+use Rattle.rpki_walk.specs.Walked.{has_lines}
 use Rattle.rpki_rules.proofs.Fronts.{keys_count}
-use Rattle.rpki_walk.proofs.Mems.{mem_push}
+use Rattle.rpki_walk.proofs.Chained.{seen_more}
 
 -- A good object at the end of an accepted chain that stands.
 good_of : (w : World) (name : List ℕ) (a : Link) (cs : List Link) → Accepted w name a cs → (p : Point) → Stands w a cs p → (uri : List ℕ) (x : Payload) → IsGood w (Holds a cs) (last_of a cs).cert p uri x → Good w (record { locator = name; chain = places a cs; object = uri }) x
@@ -123,50 +122,41 @@ module _ (w : World) where
   none {X = X} v xs y e m = subst (λ (zs : List X). Mem (map v zs) y) e m
 
   -- From nothing, all that is told.
-  pub report_is : (f g : Findings) → f.origins.items ≡ [] → f.provisions.items ≡ [] → f.refusals.items ≡ [] → f.witnesses.items ≡ [] → Gains IsLine (has_found f) (IsFinding [] w) (has_found g) → (r : ReportValue) → IsReportOf (map origin_of g.origins.items) (map provision_of g.provisions.items) (map refusal_of g.refusals.items) (map witness_of g.witnesses.items) r → IsReport w r
+  pub report_is : (f g : Findings) → f.lines.origins.items ≡ [] → f.lines.provisions.items ≡ [] → f.lines.refusals.items ≡ [] → f.witnesses.items ≡ [] → Gains IsLine (has_found f) (IsFinding [] w) (has_found g) → (r : ReportValue) → IsReportOf (map origin_of g.lines.origins.items) (map provision_of g.lines.provisions.items) (map refusal_of g.lines.refusals.items) (map witness_of g.witnesses.items) r → IsReport w r
   report_is f g eo ep er ew gained r h =
       let at : (x : Finding) → IsLine x → ¬ (has_found f x) → has_found g x ↔ IsFinding [] w x = λ x l n. let k = gained x l in (λ m. elim (k.0 m) [ inl o ↦ absurd (n o) | inr t ↦ t ], λ t. k.1 (inr t)) in
-      let os : (o : Origin) → Mem (map origin_of g.origins.items) o ↔ AttestsOrigin w o = λ o. let a = at (Originates o) tt (none origin_of f.origins.items o eo) in let b = told_origin o in (λ m. b.0 (a.0 m), λ m. a.1 (b.1 m)) in
-      let ps : (o : Provision) → Mem (map provision_of g.provisions.items) o ↔ AttestsProvision w o = λ o. let a = at (Provides o) tt (none provision_of f.provisions.items o ep) in let b = told_provision o in (λ m. b.0 (a.0 m), λ m. a.1 (b.1 m)) in
+      let os : (o : Origin) → Mem (map origin_of g.lines.origins.items) o ↔ AttestsOrigin w o = λ o. let a = at (Originates o) tt (none origin_of f.lines.origins.items o eo) in let b = told_origin o in (λ m. b.0 (a.0 m), λ m. a.1 (b.1 m)) in
+      let ps : (o : Provision) → Mem (map provision_of g.lines.provisions.items) o ↔ AttestsProvision w o = λ o. let a = at (Provides o) tt (none provision_of f.lines.provisions.items o ep) in let b = told_provision o in (λ m. b.0 (a.0 m), λ m. a.1 (b.1 m)) in
       let ts : (t : WitnessValue) → Mem (map witness_of g.witnesses.items) t ↔ IsWitness w t = λ t. let a = at (Shows t) tt (none witness_of f.witnesses.items t ew) in let b = told_trace t in (λ m. b.0 (a.0 m), λ m. a.1 (b.1 m)) in
-      let rs : (x : Refusal) → Mem (map refusal_of g.refusals.items) x ↔ IsRefused w x.name x.cause = λ x. let a = at (Refuses x.name x.cause) tt (none refusal_of f.refusals.items x er) in let b = told_refusal x.name x.cause in (λ m. b.0 (a.0 m), λ m. a.1 (b.1 m)) in
+      let rs : (x : Refusal) → Mem (map refusal_of g.lines.refusals.items) x ↔ IsRefused w x.name x.cause = λ x. let a = at (Refuses x.name x.cause) tt (none refusal_of f.lines.refusals.items x er) in let b = told_refusal x.name x.cause in (λ m. b.0 (a.0 m), λ m. a.1 (b.1 m)) in
       record {
         origins_are = record { ascend = h.origins_are.ascend; exact = λ o. (λ m. (os o).0 ((h.origins_are.exact o).0 m), λ m. (h.origins_are.exact o).1 ((os o).1 m)) };
-        customers_are = customers_of r.customers (customers_to (Mem (map provision_of g.provisions.items)) (AttestsProvision w) ps r.customers h.customers_are);
+        customers_are = customers_of r.customers (customers_to (Mem (map provision_of g.lines.provisions.items)) (AttestsProvision w) ps r.customers h.customers_are);
         refusals_are = record { ascend = h.refusals_are.ascend; exact = λ x. (λ m. (rs x).0 ((h.refusals_are.exact x).0 m), λ m. (h.refusals_are.exact x).1 ((rs x).1 m)) };
         witnesses_are = record { ascend = h.witnesses_are.ascend; exact = λ t. (λ m. (ts t).0 ((h.witnesses_are.exact t).0 m), λ m. (h.witnesses_are.exact t).1 ((ts t).1 m)) };
       }
 
-mapped_push : {X Y : Type 0} (f : X → Y) (old new : List X) (z : X) → new ≡ old ++ z ∷ [] → (y : Y) → Mem (map f new) y ↔ (Mem (map f old) y ⊎ (f z ≡ y))
-mapped_push {X = X} f old new z e y = subst (λ (ys : List X). Mem (map f ys) y ↔ (Mem (map f old) y ⊎ (f z ≡ y))) (sym e) (subst (λ ys. Mem ys y ↔ (Mem (map f old) y ⊎ (f z ≡ y))) (sym (map_push f old z)) (mem_push (map f old) (f z) y))
-
-more : {Y : Type 0} (old new zs : List Y) → new ≡ old ++ zs → (y : Y) → Mem new y ↔ (Mem old y ⊎ Mem zs y)
-more {Y = Y} old new zs e y = subst (λ (ys : List Y). Mem ys y ↔ (Mem old y ⊎ Mem zs y)) (sym e) (mem_append old zs y)
-
 -- One refusal more.
-pub refuse_gains : (f g : Findings) (name : List ℕ) (why : Cause) (r : CodeRefusal) → refusal_of r ≡ record { name = name; cause = why } → g.origins ≡ f.origins → g.provisions ≡ f.provisions → g.witnesses ≡ f.witnesses → g.refusals.items ≡ f.refusals.items ++ r ∷ [] → Gains IsLine (has_found f) (λ x. Refuses name why ≡ x) (has_found g)
-refuse_gains f g name why r er eo ep ew e (Refuses n y) t = let h = mapped_push refusal_of f.refusals.items g.refusals.items r e (record { name = n; cause = y }) in (
-  λ m. elim (h.0 m) [ inl a ↦ inl a | inr q ↦ let k : record { name = name; cause = why } ≡ refusal_of r = sym er in let p = k ∙ q in inr (λ i. Refuses (p i).name (p i).cause) ],
-  λ m. h.1 (elim m [ inl a ↦ inl a | inr q ↦ let a : name ≡ n = cc in let b : why ≡ y = cc in inr (er ∙ λ i. record { name = a i; cause = b i }) ]),
-)
-refuse_gains f g name why r er eo ep ew e (Shows s) t = (λ m. inl (subst (λ (v : Vec CodeWitness Global). Mem (map witness_of v.items) s) ew m), λ m. elim m [ inl a ↦ subst (λ (v : Vec CodeWitness Global). Mem (map witness_of v.items) s) (sym ew) a | inr q ↦ absurd (let p = q in cc) ])
-refuse_gains f g name why r er eo ep ew e (Originates s) t = (λ m. inl (subst (λ (v : Vec CodeOrigin Global). Mem (map origin_of v.items) s) eo m), λ m. elim m [ inl a ↦ subst (λ (v : Vec CodeOrigin Global). Mem (map origin_of v.items) s) (sym eo) a | inr q ↦ absurd (let p = q in cc) ])
-refuse_gains f g name why r er eo ep ew e (Provides s) t = (λ m. inl (subst (λ (v : Vec CodeProvision Global). Mem (map provision_of v.items) s) ep m), λ m. elim m [ inl a ↦ subst (λ (v : Vec CodeProvision Global). Mem (map provision_of v.items) s) (sym ep) a | inr q ↦ absurd (let p = q in cc) ])
-refuse_gains f g name why r er eo ep ew e (Reaches k n) t = absurd t
-refuse_gains f g name why r er eo ep ew e (Chains v) t = absurd t
-refuse_gains f g name why r er eo ep ew e (Diagnoses told) t = absurd t
-refuse_gains f g name why r er eo ep ew e (Unheld told numbers) t = absurd t
+pub refuse_gains : (f g : Findings) (name : List ℕ) (why : Cause) → g.witnesses ≡ f.witnesses → Gains IsPrinted (has_lines f.lines) (λ x. Refuses name why ≡ x) (has_lines g.lines) → Gains IsLine (has_found f) (λ x. Refuses name why ≡ x) (has_found g)
+refuse_gains f g name why ew h (Refuses n y) t = h (Refuses n y) tt
+refuse_gains f g name why ew h (Shows s) t = (λ m. inl (subst (λ (v : Vec CodeWitness Global). Mem (map witness_of v.items) s) ew m), λ m. elim m [ inl a ↦ subst (λ (v : Vec CodeWitness Global). Mem (map witness_of v.items) s) (sym ew) a | inr q ↦ absurd (let p = q in cc) ])
+refuse_gains f g name why ew h (Originates s) t = h (Originates s) tt
+refuse_gains f g name why ew h (Provides s) t = h (Provides s) tt
+refuse_gains f g name why ew h (Reaches k n) t = absurd t
+refuse_gains f g name why ew h (Chains v) t = absurd t
+refuse_gains f g name why ew h (Diagnoses told) t = absurd t
+refuse_gains f g name why ew h (Unheld told numbers) t = absurd t
 
 -- One good object more.
-pub show_gains : (f g : Findings) (t : WitnessValue) (x : Payload) (z : CodeWitness) → witness_of z ≡ t → g.refusals ≡ f.refusals → map origin_of g.origins.items ≡ map origin_of f.origins.items ++ origins x → map provision_of g.provisions.items ≡ map provision_of f.provisions.items ++ provisions x → g.witnesses.items ≡ f.witnesses.items ++ z ∷ [] → Gains IsLine (has_found f) (ShownBy t x) (has_found g)
-show_gains f g t x z et er eo ep ew (Refuses n y) k = (λ m. inl (subst (λ (v : Vec CodeRefusal Global). Mem (map refusal_of v.items) (record { name = n; cause = y })) er m), λ m. elim m [ inl a ↦ subst (λ (v : Vec CodeRefusal Global). Mem (map refusal_of v.items) (record { name = n; cause = y })) (sym er) a | inr q ↦ absurd q ])
-show_gains f g t x z et er eo ep ew (Shows s) k = let h = mapped_push witness_of f.witnesses.items g.witnesses.items z ew s in (
-  λ m. elim (h.0 m) [ inl a ↦ inl a | inr q ↦ inr (sym et ∙ q) ],
-  λ m. h.1 (elim m [ inl a ↦ inl a | inr q ↦ inr (et ∙ q) ]),
+pub show_gains : (f g : Findings) (t : WitnessValue) (x : Payload) (z : CodeWitness) → witness_of z ≡ t → ((s : WitnessValue) → Gains IsPrinted (has_lines f.lines) (ShownBy s x) (has_lines g.lines)) → g.witnesses.items ≡ f.witnesses.items ++ z ∷ [] → Gains IsLine (has_found f) (ShownBy t x) (has_found g)
+show_gains f g t x z et h ew (Refuses n y) k = h t (Refuses n y) tt
+show_gains f g t x z et h ew (Shows s) k = let m = seen_more witness_of f.witnesses.items g.witnesses.items z ew s in (
+  λ y. elim (m.0 y) [ inl a ↦ inl a | inr q ↦ inr (sym et ∙ q) ],
+  λ y. m.1 (elim y [ inl a ↦ inl a | inr q ↦ inr (et ∙ q) ]),
 )
-show_gains f g t x z et er eo ep ew (Originates s) k = more (map origin_of f.origins.items) (map origin_of g.origins.items) (origins x) eo s
-show_gains f g t x z et er eo ep ew (Provides s) k = more (map provision_of f.provisions.items) (map provision_of g.provisions.items) (provisions x) ep s
-show_gains f g t x z et er eo ep ew (Reaches i n) k = absurd k
-show_gains f g t x z et er eo ep ew (Chains v) k = absurd k
-show_gains f g t x z et er eo ep ew (Diagnoses told) k = absurd k
-show_gains f g t x z et er eo ep ew (Unheld told numbers) k = absurd k
+show_gains f g t x z et h ew (Originates s) k = h t (Originates s) tt
+show_gains f g t x z et h ew (Provides s) k = h t (Provides s) tt
+show_gains f g t x z et h ew (Reaches i n) k = absurd k
+show_gains f g t x z et h ew (Chains v) k = absurd k
+show_gains f g t x z et h ew (Diagnoses told) k = absurd k
+show_gains f g t x z et h ew (Unheld told numbers) k = absurd k

@@ -21,7 +21,7 @@ use Rattle.rpki_rules.specs.Views.{PathValue}
 use Rattle.rpki_walk.specs.Facts.{Finding, Refuses, Shows, Originates, Provides, Reaches, Chains, Diagnoses, Unheld, Stand, Found, ReachedBy, Gains}
 use Rattle.rpki_walk.specs.Alike.{IsPrinted, Meets, EndAlike}
 use Rattle.rpki_walk.specs.Remembered.{IsRemembered, Remembers}
-use Rattle.rpki_walk.specs.Walked.{has_lines, Continues, MeetsFile, IsWalked, AreWalked, WalksLines}
+use Rattle.rpki_walk.specs.Walked.{has_lines, Continues, MeetsFile, IsWalked, AreWalked, WalksLines, keys_at}
 use Rattle.rpki_walk.specs.declared.lines.remembered.Walked.{Walked}
 use Rattle.rpki_walk.specs.declared.lines.walk.LinesWalk.{LinesWalk}
 use Rattle.rpki_walk.proofs.Mems.{mem_push}
@@ -231,24 +231,20 @@ payload_extension w uri octets o (OfAspa a) p = inr p.0
 pub good_issued : (w : World) (held : Kind → ℕ → Type 0) (ca : Cert) (p : Point) (uri : List ℕ) (x : Payload) → IsGood w held ca p uri x → (c : Cert) → ¬ (IsIssued w held ca p uri c)
 good_issued w held ca p uri x g c i = no_cer_payload uri i.extension (payload_extension w uri g.is_signed.octets g.object x g.is_signed.reads)
 
--- What the code reads of a file, and which keys are met there.
-module _ {A P : Type 0} (cert : A → Cert) (sets : A → Resources) (payload : P → Payload) (w : World) (held : Kind → ℕ → Type 0) (ca : Cert) (p : Point) (uri : List ℕ) (o : FileKind A P) (read : IsFileKind cert sets payload w held ca p uri o) where
-  read_at : (q : FileKind A P) → o ≡ q → IsFileKind cert sets payload w held ca p uri q
-  read_at q e = subst (λ (z : FileKind A P). IsFileKind cert sets payload w held ca p uri z) e read
+-- The key of each certificate that is issued at a file is that of what the file is.
+pub keyed : {A P : Type 0} (cert : A → Cert) (sets : A → Resources) (payload : P → Payload) (w : World) (held : Kind → ℕ → Type 0) (ca : Cert) (p : Point) (uri : List ℕ) (kind : FileKind A P) → IsFileKind cert sets payload w held ca p uri kind → (old new : List (List ℕ)) → new ≡ old ++ keys_at cert kind → MeetsFile w held ca p uri (drop (length old) new)
+keyed cert sets payload w held ca p uri Is.Nothing read old new e c i = absurd (ignored_issued w held ca p uri read c i)
+keyed cert sets payload w held ca p uri Is.Bad read old new e c i = absurd (bad_issued w held ca p uri read c i)
+keyed cert sets payload w held ca p uri (Is.Attests x) read old new e c i = absurd (good_issued w held ca p uri (payload x) read c i)
+keyed cert sets payload w held ca p uri (Is.Child a) read old new e c i =
+    let same : cert a ≡ c = one_cert_at w uri (cert a) c read.0.reads i.reads in
+    let key = (cert a).tbs.subject_key_identifier in
+    let last : drop (length old) new ≡ key ∷ [] = ap (λ (xs : List (List ℕ)). drop (length old) xs) e ∙ drop_at old (key ∷ []) (length old) refl in
+    subst (λ (xs : List (List ℕ)). Mem xs c.tbs.subject_key_identifier) (sym last) (inl (ap (λ (d : Cert). d.tbs.subject_key_identifier) same))
 
-  pub keyed_nothing : o ≡ Is.Nothing → (met : List (List ℕ)) → MeetsFile w held ca p uri met
-  keyed_nothing e met c i = absurd (ignored_issued w held ca p uri (read_at Is.Nothing e) c i)
-
-  pub keyed_bad : o ≡ Is.Bad → (met : List (List ℕ)) → MeetsFile w held ca p uri met
-  keyed_bad e met c i = absurd (bad_issued w held ca p uri (read_at Is.Bad e) c i)
-
-  pub keyed_attests : (x : P) → o ≡ Is.Attests x → (met : List (List ℕ)) → MeetsFile w held ca p uri met
-  keyed_attests x e met c i = absurd (good_issued w held ca p uri (payload x) (read_at (Is.Attests x) e) c i)
-
-  pub keyed_child : (a : A) → o ≡ Is.Child a → (old new : List (List ℕ)) → new ≡ old ++ (cert a).tbs.subject_key_identifier ∷ [] → MeetsFile w held ca p uri (drop (length old) new)
-  keyed_child a e old new en c i =
-      let k = read_at (Is.Child a) e in
-      let same : cert a ≡ c = one_cert_at w uri (cert a) c k.0.reads i.reads in
-      let key = (cert a).tbs.subject_key_identifier in
-      let last : drop (length old) new ≡ key ∷ [] = ap (λ (xs : List (List ℕ)). drop (length old) xs) en ∙ drop_at old (key ∷ []) (length old) refl in
-      subst (λ (xs : List (List ℕ)). Mem xs c.tbs.subject_key_identifier) (sym last) (inl (ap (λ (d : Cert). d.tbs.subject_key_identifier) same))
+-- What is no certificate has no key.
+pub no_keys : {A P : Type 0} (cert : A → Cert) (kind : FileKind A P) → ((a : A) → ¬ (kind ≡ Is.Child a)) → keys_at cert kind ≡ []
+no_keys cert Is.Nothing n = refl
+no_keys cert Is.Bad n = refl
+no_keys cert (Is.Attests x) n = refl
+no_keys cert (Is.Child a) n = absurd (n a refl)

@@ -8,10 +8,10 @@ use Rattle.rpki_walk.specs.Facts.{Finding, Refuses, Shows, Originates, Provides,
 -- What was found has this.
 abbrev pub has_found : Findings → Finding → Type 0
 has_found f (Refuses name why) =
-    Mem (map refusal_of f.refusals.items) (record { name = name; cause = why })
+    Mem (map refusal_of f.lines.refusals.items) (record { name = name; cause = why })
 has_found f (Shows t) = Mem (map witness_of f.witnesses.items) t
-has_found f (Originates o) = Mem (map origin_of f.origins.items) o
-has_found f (Provides p) = Mem (map provision_of f.provisions.items) p
+has_found f (Originates o) = Mem (map origin_of f.lines.origins.items) o
+has_found f (Provides p) = Mem (map provision_of f.lines.provisions.items) p
 has_found f (Reaches k n) = ⊥
 has_found f (Chains v) = ⊥
 has_found f (Diagnoses d) = ⊥

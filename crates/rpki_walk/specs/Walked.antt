@@ -1,5 +1,5 @@
 -- What a walk for lines has found and remembers.
-use Rattle.std.specs.Prelude.{◌≡◌, ◌↔◌, ◌++◌, [], ℕ, List, map, drop, slice_range}
+use Rattle.std.specs.Prelude.{◌≡◌, ◌↔◌, ◌++◌, ◌∷◌, [], ℕ, List, map, drop, slice_range}
 use Rattle.rpki_walk.specs.resources.Resources.{Resources}
 use Rattle.rpki_walk.specs.rpki_bundle.declared.parts.Locator.{Locator}
 use Rattle.rpki_rules.specs.Certs.{Cert}
@@ -12,6 +12,8 @@ use Rattle.rpki_rules.specs.Refused.{IsIssued}
 use Rattle.rpki_rules.specs.Views.{origin_of, provision_of, refusal_of}
 use Rattle.rpki_walk.specs.Facts.{Finding, Refuses, Shows, Originates, Provides, Reaches, Chains, Diagnoses, Unheld, Stand, Found, FromLocator, Gains}
 use Rattle.rpki_walk.specs.Alike.{IsPrinted, Meets}
+use Rattle.rpki_walk.specs.declared.repository.FileKind.{FileKind}
+use Rattle.rpki_walk.specs.declared.repository.FileKind.TheVariants as Is
 use Rattle.rpki_walk.specs.declared.lines.found.LinesFound.{LinesFound}
 use Rattle.rpki_walk.specs.declared.lines.remembered.Walked.{Walked}
 use Rattle.rpki_walk.specs.declared.lines.walk.LinesWalk.{LinesWalk}
@@ -31,6 +33,13 @@ has_lines f (Unheld d numbers) = ⊥
 -- The one list is the other with more behind it.
 abbrev pub Continues : List (List ℕ) → List (List ℕ) → Type 0
 Continues old new = (more : List (List ℕ)) × (new ≡ old ++ more)
+
+-- The key of what a file is, where it is a certificate.
+abbrev pub keys_at : {A P : Type 0} → (A → Cert) → FileKind A P → List (List ℕ)
+keys_at cert Is.Nothing = []
+keys_at cert Is.Bad = []
+keys_at cert (Is.Child a) = (cert a).tbs.subject_key_identifier ∷ []
+keys_at cert (Is.Attests x) = []
 
 -- The key of each certificate that is issued at the file is met.
 abbrev pub MeetsFile : World → (Kind → ℕ → Type 0) → Cert → Point → List ℕ → List (List ℕ)

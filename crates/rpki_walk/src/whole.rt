@@ -5,19 +5,18 @@ ghost use Rattle.rpki_walk.specs.Lines.{has_found, IsLine};
 ghost use Rattle.rpki_rules.specs.Report.{IsReport};
 
 use crate::anchors::walk_all;
+use crate::lines::found::LinesFound;
 use crate::repository::Repository;
 use crate::visitor::{Chain, Visitor};
 use bytes::Bytes;
-use rpki_rules::{Cause, Origin, Path, Provision, Refusal, Report, Witness};
+use rpki_rules::{Cause, Path, Report, Witness};
 use std::alloc::{AllocError, Global};
 use std::rc::Rc;
 
-// What was found so far, in the order of the walk.
+// What was found so far, in the order of the walk: what lines tell, and of each good object by which chain.
 #[derive(Drop)]
 struct Findings {
-    origins: Vec<Origin>,
-    provisions: Vec<Provision>,
-    refusals: Vec<Refusal>,
+    lines: LinesFound,
     witnesses: Vec<Witness>,
 }
 
@@ -39,8 +38,7 @@ impl<S: Repository> Visitor<S> for Findings {
     }
 
     fn refuse(&mut self, name: &Bytes, why: Cause) -> Result<(), AllocError> {
-        self.refusals.push(Refusal::new(name.clone()?, why))?;
-        Ok(())
+        self.lines.refuse(name, why)
     }
 
     fn show(
@@ -50,8 +48,7 @@ impl<S: Repository> Visitor<S> for Findings {
         object: &Bytes,
         payload: S::Payload,
     ) -> Result<(), AllocError> {
-        repository.add_origins(&payload, &mut self.origins)?;
-        repository.add_provisions(&payload, &mut self.provisions)?;
+        self.lines.show(repository, &payload)?;
         self.witnesses
             .push(Witness::new(path.clone()?, object.clone()?))?;
         Ok(())
@@ -65,18 +62,9 @@ pub fn walk<S: Repository>(alloc: Global, repository: &mut S) -> Result<Report, 
     ensures lender { S.lender repository.new ≡ S.lender repository.old }
 {
     let mut found = Findings {
-        origins: Vec::new(alloc),
-        provisions: Vec::new(alloc),
-        refusals: Vec::new(alloc),
+        lines: LinesFound::new(alloc),
         witnesses: Vec::new(alloc),
     };
     walk_all(alloc, repository, &mut found)?;
-    let report = Report::new(
-        alloc,
-        found.origins,
-        found.provisions,
-        found.refusals,
-        found.witnesses,
-    )?;
-    Ok(report)
+    found.lines.report(alloc, found.witnesses)
 }

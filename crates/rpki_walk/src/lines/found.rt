@@ -1,16 +1,16 @@
-//! What lines tell, as it is found.
+//! What lines tell, as a walk finds it.
 
 ghost use Rattle.std.specs.Prelude.{◌≡◌, [], map, IfOk, OnOk};
 ghost use Rattle.rpki_rules.specs.Attests.{WitnessValue};
 ghost use Rattle.rpki_rules.specs.Report.{IsReportOf};
-ghost use Rattle.rpki_rules.specs.Views.{origin_of, provision_of, refusal_of};
+ghost use Rattle.rpki_rules.specs.Views.{origin_of, provision_of, refusal_of, witness_of};
 ghost use Rattle.rpki_walk.specs.Alike.{IsPrinted};
 ghost use Rattle.rpki_walk.specs.Facts.{Gains, Refuses, ShownBy};
 ghost use Rattle.rpki_walk.specs.Walked.{has_lines};
 
 use crate::repository::Repository;
 use bytes::Bytes;
-use rpki_rules::{Cause, Origin, Provision, Refusal, Report};
+use rpki_rules::{Cause, Origin, Provision, Refusal, Report, Witness};
 use std::alloc::{AllocError, Global};
 
 /// What was found so far, in the order of the walk.
@@ -57,17 +57,18 @@ impl LinesFound {
         Ok(())
     }
 
-    /// The report of it, without a witness.
-    pub(crate) fn report(self, alloc: Global) -> Result<Report, AllocError>
+    /// The report of it, with these witnesses.
+    pub(crate) fn report(self, alloc: Global, witnesses: Vec<Witness>) -> Result<Report, AllocError>
         ensures { IfOk result (IsReportOf (map origin_of self.origins.items)
-            (map provision_of self.provisions.items) (map refusal_of self.refusals.items) []) }
+            (map provision_of self.provisions.items) (map refusal_of self.refusals.items)
+            (map witness_of witnesses.items)) }
     {
         let report = Report::new(
             alloc,
             self.origins,
             self.provisions,
             self.refusals,
-            Vec::new(alloc),
+            witnesses,
         )?;
         Ok(report)
     }

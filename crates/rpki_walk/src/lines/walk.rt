@@ -1,14 +1,14 @@
 //! The walk from chains to longer ones, of which no two that end alike are walked.
 
-ghost use Rattle.std.specs.Prelude.{◌≡◌, ◌≤◌, ◌++◌, ◌∷◌, [], drop, length, IfOk, IfSome, OnOk};
+ghost use Rattle.std.specs.Prelude.{◌≡◌, ◌≤◌, ◌++◌, [], drop, length, IfOk, IfSome, OnOk};
 ghost use Rattle.rpki_rules.specs.Words.{Mem};
 ghost use Rattle.rpki_rules.specs.Kinds.{InSet};
 ghost use Rattle.rpki_rules.specs.Points.{files};
 ghost use Rattle.rpki_walk.specs.Facts.{Classified};
 ghost use Rattle.rpki_walk.specs.Remembered.{IsRemembered, Remembers};
-ghost use Rattle.rpki_walk.specs.Walked.{Continues, MeetsFile, WalksLines};
+ghost use Rattle.rpki_walk.specs.Walked.{Continues, MeetsFile, WalksLines, keys_at};
 
-use crate::chains::{Outcome, with_first};
+use crate::chains::{Outcome, outcome_of, with_first};
 use crate::lines::found::LinesFound;
 use crate::lines::remembered::Remembered;
 use crate::reach::naming::Naming;
@@ -16,7 +16,6 @@ use crate::repository::{FileKind, Repository};
 use bytes::Bytes;
 use resources::set::ResourceSet;
 use rpki_rules::Cause;
-use rpki_rules::listed::is_listed;
 use std::alloc::{AllocError, Global};
 
 /// What a walk for lines has found and remembers.
@@ -39,20 +38,19 @@ fn copy_of(alloc: Global, list: &[Bytes]) -> Result<Vec<Bytes>, AllocError>
     Ok(all)
 }
 
-// The certificate's key, which is added to those that were met.
+// Adds the key of what a file is to those that were met, where it is a certificate.
 fn meet<S: Repository>(
     alloc: Global,
     repository: &S,
     met: &mut Vec<Bytes>,
-    child: &S::Authority,
-) -> Result<Bytes, AllocError>
-    ensures key { IfOk result (λ key. key ≡ (S.cert child.now).tbs.subject_key_identifier) }
-    ensures added { OnOk result (met.new.items
-        ≡ met.old.items ++ (S.cert child.now).tbs.subject_key_identifier ∷ []) }
+    kind: &FileKind<S::Authority, S::Payload>,
+) -> Result<(), AllocError>
+    ensures { OnOk result (met.new.items ≡ met.old.items ++ keys_at S.cert kind.now) }
 {
-    let key = repository.key_identifier(alloc, child)?;
-    met.push(key.clone()?)?;
-    Ok(key)
+    if let FileKind::Child(child) = kind {
+        met.push(repository.key_identifier(alloc, child)?)?;
+    }
+    Ok(())
 }
 
 impl LinesWalk {
@@ -134,21 +132,9 @@ impl LinesWalk {
         ensures same { S.world repository.new ≡ S.world repository.old }
         ensures lender { S.lender repository.new ≡ S.lender repository.old }
     {
-        match repository.read_file(alloc, ca, p, uri)? {
-            FileKind::Nothing => Ok(Outcome::Nothing),
-            FileKind::Bad => Ok(Outcome::Refused(Cause::Object)),
-            FileKind::Attests(payload) => Ok(Outcome::Attests(payload)),
-            FileKind::Child(child) => {
-                let key = meet(alloc, repository, &mut self.met, &child)?;
-                if is_listed(keys, key.as_slice()) {
-                    return Ok(Outcome::Refused(Cause::Loop));
-                }
-                if keys.len() >= repository.depth() {
-                    return Ok(Outcome::Refused(Cause::Depth));
-                }
-                Ok(Outcome::Child(child, key))
-            }
-        }
+        let kind = repository.read_file(alloc, ca, p, uri)?;
+        meet(alloc, repository, &mut self.met, &kind)?;
+        outcome_of(alloc, repository, keys, kind)
     }
 }
 

@@ -69,6 +69,6 @@ pub fn walk_lines<S: Naming>(alloc: Global, repository: &mut S) -> Result<Report
     for at in 0..repository.locator_count() {
         lines_at(alloc, repository, &mut walk, at)?;
     }
-    let report = walk.lines.report(alloc)?;
+    let report = walk.lines.report(alloc, Vec::new(alloc))?;
     Ok(report)
 }

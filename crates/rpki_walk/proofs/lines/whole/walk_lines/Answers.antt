@@ -1,7 +1,10 @@
-use Rattle.std.proofs.Common.{ℕ, ◌≤◌, ◌<◌, ◌⊎◌, ◌↔◌, List, [], refl, take_all, sym, subst, ◌∙◌, inl, inr}
+use Rattle.std.proofs.Common.{ℕ, ◌≤◌, ◌<◌, ◌⊎◌, ◌↔◌, List, [], map, refl, take_all, sym, subst, ◌∙◌, inl, inr}
 use Rattle.rpki_walk.specs.rpki_bundle.declared.parts.Locator.{Locator}
 use Rattle.rpki_rules.specs.Words.{Mem}
 use Rattle.rpki_rules.specs.World.{World}
+use Rattle.rpki_rules.specs.Report.{IsReportOf}
+use Rattle.rpki_rules.specs.Views.{origin_of, provision_of, refusal_of, witness_of}
+use Rattle.rpki_rules.specs.declared.witness.Witness.{Witness}
 use Rattle.rpki_walk.specs.Repository.{locator_at}
 use Rattle.rpki_walk.specs.Facts.{FromLocator, IsFinding}
 use Rattle.rpki_walk.specs.Alike.{IsPrinted}
@@ -41,9 +44,11 @@ loop-at-preserved g c =
 pub returns-clause-report : goal.returns-clause-report
 returns-clause-report g c =
     let w = g.S.Repository.world c.args.repository.now in
-    lines_are w c.loop-at.walk.lines
+    let lines = c.loop-at.walk.lines in
+    lines_are w lines
     (gains_same IsPrinted _ _ _ _ c.loop-at.invariant.gained (λ x.
     subst (λ (ls : List Locator). (⊥ ⊎ ((u : Locator) × Mem ls u × FromLocator [] w u x)) ↔ IsFinding [] w x)
     (sym (take_all c.loop-at.at w.locators (subst (λ (n : ℕ). n ≤ c.loop-at.at) c.locator_count-at-end.ensures.count c.loop-at-test.false)))
     (told_is [] w c.locator_count-at-end.ensures.apart x)))
-    c.in_ok-report.report c.in_ok-report.ensures
+    c.in_ok-report.report
+    (subst (λ (ws : List Witness). IsReportOf (map origin_of lines.origins.items) (map provision_of lines.provisions.items) (map refusal_of lines.refusals.items) (map witness_of ws) c.in_ok-report.report) c.new.ensures.items c.in_ok-report.ensures)

@@ -1,7 +1,9 @@
-use Rattle.std.proofs.Common.{refl, ◌∙◌}
+use Rattle.std.proofs.Common.{refl}
+use Rattle.rpki_walk.proofs.Leading.{on_ok}
 use Rattle.rpki_walk.proofs.Reports.{refuse_gains}
 use Rattle.rpki_walk.proofs.whole.FindingsVisitor.refuse.Goals as goal
 
 pub returns-clause-gained : goal.returns-clause-gained
 returns-clause-gained g c =
-    refuse_gains c.args.self.now (record { origins = c.args.self.now.origins; provisions = c.args.self.now.provisions; refusals = c.push.new.self; witnesses = c.args.self.now.witnesses }) c.args.name.now c.args.why c.new.result (c.new.ensures ∙ λ i. record { name = c.in_ok-clone.ensures.cases i; cause = c.args.why }) refl refl refl c.in_ok-push.ensures.items
+    let old = c.args.self.now in
+    on_ok c.refuse.result (refuse_gains old (record { lines = c.refuse.new.self; witnesses = old.witnesses }) c.args.name.now c.args.why refl) c.refuse.ensures
