@@ -107,12 +107,11 @@ impl MultiSignedObject {
             crls,
             signers,
         } = carried;
-        let crls = listed(alloc, crls);
         MultiSignedObject {
             content_type,
             content,
             certs,
-            crls,
+            crls: listed(alloc, crls),
             signers,
         }
     }
