@@ -205,7 +205,8 @@ class Walk:
         # `most`: octets of a file; `skipped`: device and number of folders that are passed over, such as the one that is
         # being written
         self.top, self.tell, self.most, self.skipped = top, tell, most, skipped
-        self.seen = 0
+        # how many entries of a host were seen, and whether there are more, which aren't looked at
+        self.seen, self.is_cut = 0, False
 
     def hosts(self, place):
         """The names of the hosts' folders in a place."""
@@ -241,6 +242,25 @@ class Walk:
         finally:
             os.close(at)
 
+    def find(self, names, files):
+        """Of files of these names those that stand in a folder, each a name and its octets; the folder isn't listed."""
+        found = []
+        try:
+            at = open_below(self.top, names)
+        except OSError:
+            return found
+        try:
+            for name in filter(NAME.match, files):
+                try:
+                    status = os.stat(name, dir_fd=at, follow_symlinks=False)
+                except OSError:
+                    continue
+                if stat.S_ISREG(status.st_mode) and status.st_size <= self.most:
+                    found.append((name, status.st_size))
+        finally:
+            os.close(at)
+        return found
+
     def tell_place(self, place):
         """Tells of a place that is there and isn't a folder that can be read."""
         try:
@@ -264,6 +284,7 @@ class Walk:
                 for entry in found:
                     if self.seen == MOST_SEEN:
                         self.tell(TOO_MANY, "/".join(names) + "/..")
+                        self.is_cut = True
                         break
                     self.seen += 1
                     self.sort(entry, names, files, folders)
@@ -291,7 +312,7 @@ class Walk:
 
     def below(self, place, host):
         """Each folder of a host: its path below OUT, and its files, each a name and its octets."""
-        self.seen = 0
+        self.seen, self.is_cut = 0, False
         try:
             at = open_below(self.top, (*place.names, host))
         except OSError:

@@ -96,9 +96,10 @@ class Point:
 class Tree:
     """All authorities that the locators lead to, by the key's identifier and the manifest's path."""
 
-    def __init__(self, listing, helpers, moment, depth, watched):
+    def __init__(self, listing, walk, helpers, moment, depth, watched):
         # `watched` are the paths for which copies have to be chosen
-        self.listing, self.helpers, self.moment, self.depth, self.watched = listing, helpers, moment, depth, watched
+        self.listing, self.walk, self.helpers, self.watched = listing, walk, helpers, watched
+        self.moment, self.depth = moment, depth
         self.points, self.signers, self.digests = {}, {}, {}
         self.claims = collections.defaultdict(list)
         self.anchors, self.seen, self.contested, self.lost = {}, set(), [], set()
@@ -129,6 +130,12 @@ class Tree:
         for piece, answers in self.helpers.spread(name, pieces, lambda piece: [job[2] for job in piece]):
             yield from zip((job[0] for job in piece), answers)
 
+    def look(self, out, names):
+        """Looks for files that weren't listed, where a host has more than is listed."""
+        if self.listing.cut:
+            self.listing.look(self.walk, out, names)
+            self.watched |= {path for path in (f"{out}/{name}" for name in names) if len(self.listing.copies(path)) > 1}
+
     def job(self, key, path, *words, numbers=None):
         """A job about a path's copies, or about those below the roots of these numbers."""
         numbers = self.listing.copies(path) if numbers is None else numbers
@@ -137,8 +144,10 @@ class Tree:
 
     def find_anchors(self, tals):
         """The certificates of trust anchors, each with its path and without a parent."""
-        jobs = (self.job((path, key), path, key) for _, key, uris in tals for path in filter(None, map(path_of, uris))
-                if key and self.listing.copies(path))
+        rows = [(path, key) for _, key, uris in tals for path in filter(None, map(path_of, uris)) if key]
+        for path, _ in rows:
+            self.look(path.rpartition("/")[0], [path.rpartition("/")[2]])
+        jobs = (self.job((path, key), path, key) for path, key in rows if self.listing.copies(path))
         for (path, _), found in self.ask("anchors", jobs):
             if found:
                 # (valid ones first, then the newest)
@@ -147,15 +156,16 @@ class Tree:
                 yield cert, path, None
 
     def admit(self, wave):
-        """Puts certificates to their authorities: those of which something is new."""
+        """Puts certificates that are valid to their authorities: those of which something is new."""
         changed = {}
         for cert, path, parent in wave:
             at = path_of(cert.manifest)
-            if at is None:
+            if at is None or not cert.first <= self.moment <= cert.last:
                 continue
             key = cert.identifier, at
             if key not in self.points:
                 self.points[key] = Point(cert, uri_of(path), at, parent)
+                self.look(self.points[key].folder, [at.rpartition("/")[2]])
             if self.points[key].meet(cert):
                 changed[key] = self.points[key]
         return list(changed.values())
@@ -231,6 +241,7 @@ class Tree:
             if point.copy is None or point.copy.digest in point.listed_of:
                 continue
             point.listed_of.add(point.copy.digest)
+            self.look(point.folder, point.copy.manifest.names)
             for name, digest in point.entries():
                 path = f"{point.folder}/{name}"
                 if name[-4:].lower() == ".cer" and (path, digest) not in self.seen and self.listing.copies(path):
@@ -244,6 +255,7 @@ class Tree:
         """Of each path that is watched, and claimed, the digest of the copy to take; what is contested of them is noted."""
         self.wanted = dict(self.anchors)
         standing = [point for point in self.points.values() if point.copy]
+        self.watched |= self.listing.clashes
         for point in standing:
             self.claim(point, point.path, point.copy.digest, point.copy.places)
             for name, digest in point.entries():

@@ -1,5 +1,4 @@
-"""How all files of a cache come to be taken: they are listed, where it is needed it is chosen between copies, and they are handed to
-helpers."""
+"""How all files of a cache come to be taken: listed, chosen where copies differ or there is too much, and handed to helpers."""
 
 import caches
 from choosing import Tree
@@ -32,6 +31,8 @@ class Gathering:
                 number = self.listing.add_root(caches.Root(place, host))
                 for out, files in self.walk.below(place, host):
                     self.listing.add(number, out, files)
+                if self.walk.is_cut:
+                    self.listing.add_cut(number, f"{place.scheme}/{host.lower()}")
         if self.layout == "rpki-client":
             for root, out, files in anchor_files(self.walk, self.tals):
                 self.listing.add(self.listing.add_root(root), out, files)
@@ -43,7 +44,7 @@ class Gathering:
     def chosen_before(self):
         """Where files and folders have one path, or there is too much, what is left out is chosen before anything is taken: then
         the digests of the copies to take, else None."""
-        if not (self.listing.clashes or self.is_heavy()):
+        if not (self.listing.clashes or self.listing.cut or self.is_heavy()):
             return None
         tree = self.tree({*self.listing.several(), *self.listing.clashes})
         wanted = tree.decide(self.known)
@@ -60,7 +61,7 @@ class Gathering:
 
     def tree(self, watched):
         """All authorities, with claims on the paths that are watched."""
-        tree = Tree(self.listing, self.helpers, self.given.moment, self.given.depth, watched)
+        tree = Tree(self.listing, self.walk, self.helpers, self.given.moment, self.given.depth, watched)
         tree.grow([(one.name, one.key, one.uris) for one in self.tals])
         self.contested = tree.contested
         return tree

@@ -71,6 +71,8 @@ class Listing:
         # `entries` are those that OUT has besides objects
         self.tell, self.entries = tell, entries
         self.roots, self.folders, self.clashes = [], {}, set()
+        # the numbers of the roots that weren't listed to their end, by scheme and host
+        self.cut = {}
         self.count = self.octets = 0
 
     def add_root(self, root):
@@ -96,6 +98,19 @@ class Listing:
                 if f"{out}/{name}" in self.folders:
                     self.clashes.add(f"{out}/{name}")
         self.count += len(held) - before
+
+    def add_cut(self, number, out):
+        """Notes that the root of that number has more than was listed of this host."""
+        self.cut.setdefault(out, []).append(number)
+
+    def look(self, walk, out, names):
+        """Adds the files of these names in a folder that weren't listed, where the host has more than was listed."""
+        for number in self.cut.get("/".join(out.split("/")[:2]), ()):
+            held = self.folders.get(out, {})
+            missing = [name for name in names if name not in held or number not in roots_of(held[name])]
+            found = walk.find(self.roots[number].names(out), missing)
+            if found:
+                self.add(number, out, found)
 
     def folder(self, out):
         """The files of a folder, which is added with those around it where it isn't there."""

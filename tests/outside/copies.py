@@ -13,6 +13,7 @@ import hashlib
 import ipaddress
 import json
 import os
+import random
 import shutil
 import subprocess
 import sys
@@ -21,6 +22,10 @@ import tempfile
 from odd_caches import Room, repository, same
 
 sys.dont_write_bytecode = True
+
+import points  # noqa: E402
+import relaxed  # noqa: E402
+import signed  # noqa: E402
 
 HOST = repository.HOST
 HONEST_SERVER, OTHER_SERVER = f"https://rrdp.{HOST}/notify.xml", "https://aaa.other.example/notify.xml"
@@ -391,11 +396,51 @@ def crowd(room, world):
     world.all()
 
 
+def by_chance(world, count):
+    """Octets by chance in the place of certificates, manifests and ROAs are Malformed, or something is read of them; nothing else."""
+    chance, anchor = random.Random(1), world.anchor
+    roa, bits = world.honest[A0 + "o0.roa"], b"\0" + next(one for one in world.made.below if one.name == "a0").key.octets
+    kinds = (world.honest[anchor.at], points.authority), (world.honest[VICTIM], read_manifest(bits)), (roa, count_rows)
+    for octets, read in kinds:
+        outcomes = set()
+        for _ in range(count):
+            changed = bytearray(octets)
+            for _ in range(chance.randrange(1, 4)):
+                changed[chance.randrange(len(octets))] = chance.choice((0, 1, 0x30, 0x80, 0x84, 0xFF, chance.randrange(256)))
+            changed = changed[: chance.choice((len(octets), chance.randrange(len(octets))))]
+            try:
+                read(bytes(changed))
+                outcomes.add("read")
+            except signed.Malformed:
+                outcomes.add("malformed")
+        same(f"{count:,} times octets by chance", outcomes, {"read", "malformed"})
+
+
+def read_manifest(bits):
+    def read(octets):
+        found = relaxed.read(octets)
+        if isinstance(found, signed.Object):
+            if found.content:
+                points.listed(found.content)
+            points.digest_in(found.attributes)
+            points.is_manifest_by(found, bits)
+
+    return read
+
+
+def count_rows(octets):
+    found = relaxed.read(octets)
+    if isinstance(found, signed.Object) and found.content:
+        points.count_of(found.kind, found.content, 0)
+        points.listed(found.content)
+
+
 def main():
     program = (sys.argv[1:] or [None])[0]
     world = World()
     with tempfile.TemporaryDirectory() as folder:
         room = Room(folder, world.made)
+        by_chance(world, 20_000)
         crowd(room, world)
         before(room, world, program)
         replayed(room, world, program)

@@ -128,6 +128,17 @@ def unlisted(room, world, program):
     shutil.rmtree(cache)
 
 
+def hidden(room, world, program):
+    """A host of which more entries stand there than are looked at: what manifests list is found, whatever stands before it."""
+    cache = room.path("hidden")
+    lay(cache, {**world.honest, **{f"{REPOSITORY}{folder}/{number}.roa": b"x" for folder in ("AAA", "a0", "ta") for number in range(40)}})
+    for most in (1, 5, 41, 100):
+        _, report = told(room, cache, code=f"import caches\ncaches.MOST_SEEN = {most}")
+        same(f"{most} entries: told", bool(left(report, "beyond 1,000,000 entries of a host")), True)
+        is_honest(room, f"{most} entries", world, program)
+    shutil.rmtree(cache)
+
+
 def prefixes(world, count):
     """An authority with a ROA of so many prefixes, and an ASPA of as many providers."""
     one = world.other(FOLDER + "aaa.mft")
@@ -233,6 +244,7 @@ def main():
         reported(room, world)
         origins(room, world, program)
         shares(room, world, program)
+        hidden(room, world, program)
 
 
 if __name__ == "__main__":
