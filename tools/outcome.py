@@ -167,6 +167,10 @@ def text_of_report(outcome):
     """What verdicts.py reports that an operator should look at."""
     if apart := guards.apart(outcome.given.moment, outcome.report.get("newest_file")):
         yield "warning", apart
+    # (verdicts.py has told how many files there are for each reason, and not whose)
+    for row in outcome.report.get("left_out", []):
+        if row["authority"]:
+            yield "notice", f"left out of {row['authority']}: {row['files']:,} files, {row['octets']:,} octets: {row['why']}"
     for name in outcome.given.allow_missing_anchor:
         if name not in {one["name"] for one in outcome.report.get("locators") or [{"name": name}]}:
             yield "warning", f"--allow-missing-anchor {name}: there is no such locator"

@@ -38,6 +38,14 @@ MANY = 70
 TOOLS = os.path.join(os.path.dirname(os.path.abspath(__file__)), os.pardir, os.pardir, "tools")
 # So many origins there are before and after, and so many octets of memory one more may take.
 ORIGINS, MOST_OCTETS = (20_000, 200_000), 100
+# Runs a program and prints its memory in KiB. (The system counts what its parent had before, so that has to be small.)
+MEASURED = """
+import os, subprocess, sys
+run = subprocess.Popen(sys.argv[1:], stdout=subprocess.DEVNULL, stderr=subprocess.DEVNULL)
+_, status, used = os.wait4(run.pid, 0)
+print(used.ru_maxrss)
+sys.exit(status != 0)
+"""
 # Exceptions that match some and add one.
 RULES = """{
   "slurmVersion": 1,
@@ -265,10 +273,8 @@ def written_lines(path, count):
 def most_memory(words, path):
     """The most octets of memory that a program has over a file."""
     with open(path, "rb") as lines:
-        run = subprocess.Popen([sys.executable, *words], stdin=lines, stdout=subprocess.DEVNULL, stderr=subprocess.DEVNULL)
-    _, status, used = os.wait4(run.pid, 0)
-    run.returncode = os.waitstatus_to_exitcode(status)
-    return used.ru_maxrss * 1024 if run.returncode == 0 else None
+        done = subprocess.run([sys.executable, "-c", MEASURED, sys.executable, *words], stdin=lines, stdout=subprocess.PIPE)
+    return int(done.stdout) * 1024 if done.returncode == 0 else None
 
 
 def memory(tests, counts):

@@ -227,7 +227,7 @@ def excepted(room):
     told = []
     for name, text, words in (("ours", ours.stdout, ()), ("theirs", lines, ("-slurm", rules))):
         made = tool("lines_to.py", "json", "--moment", moment(), input=text).stdout
-        with StayRTR(write(os.path.join(room, f"{name}.json"), made), *words) as server:
+        with StayRTR(write(os.path.join(room, f"excepted-{name}.json"), made), *words) as server:
             origins, (customers, _) = server.dumped()
             # (for IPv6 StayRTR 0.5.1 adds no customer of its own)
             told.append((without_default(sorted(origins)), customers))
