@@ -25,7 +25,8 @@ list_of row = vec.the_row row global.the_row ghosts
 
 -- Once the borrow ends the part is what the borrow left, and all else is what it was.
 abbrev pub LendsKeys : MutBor ContentBuilder → MutBor (Vec (List ℕ)) → Fml
-LendsKeys b lent = Lends the_row (list_of key_row) b lent (λ keys. record b.now { keys = keys.items })
+LendsKeys b lent = Lends the_row (list_of key_row) b lent
+    (λ keys. record b.now { keys = keys.items })
 
 abbrev pub LendsNumbers : MutBor ContentBuilder → MutBor (List Run) → Fml
 LendsNumbers b lent = Lends the_row as_row b lent (λ blocks. record b.now { asn = blocks })
@@ -37,10 +38,12 @@ abbrev pub LendsV6 : MutBor ContentBuilder → MutBor (List Run) → Fml
 LendsV6 b lent = Lends the_row ip_row b lent (λ blocks. record b.now { v6 = blocks })
 
 abbrev pub LendsCerts : MutBor Draft → MutBor (Vec CertValue) → Fml
-LendsCerts b lent = Lends draft_row (list_of cert_row) b lent (λ certs. record b.now { certs = certs.items })
+LendsCerts b lent = Lends draft_row (list_of cert_row) b lent
+    (λ certs. record b.now { certs = certs.items })
 
 abbrev pub LendsCrls : MutBor Draft → MutBor (Vec CrlValue) → Fml
-LendsCrls b lent = Lends draft_row (list_of crl_row) b lent (λ crls. record b.now { crls = crls.items })
+LendsCrls b lent = Lends draft_row (list_of crl_row) b lent
+    (λ crls. record b.now { crls = crls.items })
 
 abbrev pub LendsSigners : MutBor Draft → MutBor (Vec SignerValue) → Fml
 LendsSigners b lent = Lends draft_row (list_of signer_row) b lent
