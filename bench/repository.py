@@ -166,7 +166,7 @@ class Authority:
         self.name, self.key, self.held, self.parent = name, key, held, parent
         self.folder = f"rsync://{HOST}/repository/{name}/"
         self.at = f"rsync://{HOST}/repository/{parent.name + '/' if parent else ''}{name}.cer"
-        self.files, self.serial, self.revoked = {}, 0, []
+        self.files, self.serial, self.revoked, self.number = {}, 0, [], 1
 
     def next_serial(self):
         self.serial += 1
@@ -269,7 +269,7 @@ class Authority:
             for file, octets in sorted(self.files.items())
         )
         times = (der(0x18, text.encode()) for text in (NOT_BEFORE, NOT_AFTER))
-        content = sequence(integer(1), *times, oid("2.16.840.1.101.3.4.2.1"), sequence(*listed))
+        content = sequence(integer(self.number), *times, oid("2.16.840.1.101.3.4.2.1"), sequence(*listed))
         file = self.name + ".mft"
         manifest = self.sign_object("1.2.840.113549.1.9.16.1.26", content, file, key, Held(inherits=True))
         return {self.folder + name: octets for name, octets in [*self.files.items(), (file, manifest)]}
@@ -291,7 +291,7 @@ class Repository:
         last = FIRST_AS + authorities * (customers + 1)
         top = Held([ipaddress.ip_network("10.0.0.0/8")], [(FIRST_AS, last)])
         self.anchor = Authority("ta", self.key(), top)
-        self.objects, self.origins, self.customers = {}, [], []
+        self.objects, self.origins, self.customers, self.below = {}, [], [], []
         # (no key may stand twice on a chain, so authorities have keys of their own)
         for number in range(authorities):
             self.add_authority(number, origins, customers)
@@ -308,6 +308,7 @@ class Repository:
         first = FIRST_AS + number * (customers + 1)
         held = Held([network], [(first, first + customers)])
         authority = Authority(name, self.key(), held, self.anchor)
+        self.below.append(authority)
         self.anchor.files[name + ".cer"] = authority.own_cert()
         for count in range(origins):
             prefix = ipaddress.ip_network((start + (count << 4) % (1 << 14), 28))

@@ -24,6 +24,10 @@ MOST_PATH = 2048
 TRIES = 3
 
 LAYOUTS = ("plain", "rpki-client", "fort", "routinator")
+# What a place's objects came by: by rsync, by RRDP, or by either, which the place doesn't tell.
+RSYNC, RRDP, EITHER = "rsync", "rrdp", "either"
+# A folder's name that is the SHA-256 digest of the URI of a notification file (`rpkiNotify`).
+DIGEST = re.compile(r"[0-9A-Fa-f]{64}\Z")
 # A host has a dot or is localhost; so the folders of a cache that aren't hosts are told apart.
 HOST = re.compile(r"[A-Za-z0-9-]+(\.[A-Za-z0-9-]+)+(:[0-9]+)?\Z|localhost\Z")
 # What a name in a URI is written in, as long as names of files may be.
@@ -86,7 +90,7 @@ def folders_of(top, *names):
 
 
 def read_once(file, most):
-    """An open file's octets, or None where it changed while they were read."""
+    """An open file's octets and when they were written, in seconds since 1970; or None where it changed while they were read."""
     before = os.fstat(file)
     if not stat.S_ISREG(before.st_mode):
         raise LeftOut(LINK if stat.S_ISLNK(before.st_mode) else NOT_A_FILE)
@@ -100,18 +104,19 @@ def read_once(file, most):
         octets += more
     after = os.fstat(file)
     same = (before.st_size, before.st_mtime_ns) == (after.st_size, after.st_mtime_ns)
-    return octets if same and len(octets) == before.st_size else None
+    return (octets, after.st_mtime_ns // 1_000_000_000) if same and len(octets) == before.st_size else None
 
 
 def read_file(folder, name, most):
-    """The octets of a regular file in an open folder, at most so many; the same that were there all the while."""
+    """The octets of a regular file in an open folder, at most so many, the same that were there all the while; and when they
+    were written, in seconds since 1970."""
     try:
         file = os.open(name, FILE, dir_fd=folder)
         try:
             for _ in range(TRIES):
-                octets = read_once(file, most)
-                if octets is not None:
-                    return octets
+                found = read_once(file, most)
+                if found is not None:
+                    return found
         finally:
             os.close(file)
     except OSError as why:
@@ -120,31 +125,51 @@ def read_file(folder, name, most):
 
 
 class Place:
-    """A folder of the cache, by the names that lead to it, with hosts below it, and the scheme of their URIs."""
+    """A folder of the cache, by the names that lead to it, with hosts below it, and the scheme of their URIs.
 
-    def __init__(self, names, scheme, others=()):
+    `way` says what its objects came by; `server` which server a folder of RRDP is of, as far as its names tell: the host of the
+    notification file's URI, and that URI's SHA-256 digest, each in lower case or None.
+    """
+
+    def __init__(self, names, scheme="rsync", way=EITHER, others=(), server=(None, None)):
         # `others`: names in it that aren't hosts', and of which nothing has to be told
-        self.names, self.scheme, self.others = tuple(names), scheme, others
+        self.names, self.scheme, self.way, self.others, self.server = tuple(names), scheme, way, others, server
+
+
+class Root:
+    """Where copies stand: the folder of a host in a place, or with `fixed` names a folder that has one file of any URI."""
+
+    def __init__(self, place, host=None, fixed=None):
+        self.place, self.host, self.fixed = place, host, fixed
+
+    def names(self, out):
+        """The names that lead to the folder which has that path below OUT."""
+        return self.fixed or (*self.place.names, self.host, *out.split("/")[2:])
+
+
+def server_of(name, host=None):
+    """Which server a folder of RRDP is of, by its name."""
+    return host and host.lower(), name.lower() if DIGEST.match(name) else None
 
 
 def places(top, layout):
-    """The places of a layout, the first that count first."""
+    """The places of a layout, in order."""
     if layout == "plain":
-        yield Place(["rsync"], "rsync")
+        yield Place(["rsync"])
         yield Place(["https"], "https")
     elif layout == "rpki-client":
         own = (".rrdp", "rrdp", ".rsync", "rsync", ".ta", "ta", "valid")
-        yield Place(["valid"], "rsync")
-        yield Place([], "rsync", own)
+        yield Place(["valid"])
+        yield Place([], others=own)
         for start in (".rrdp", "rrdp"):
             for name in folders_of(top, start):
-                yield Place([start, name], "rsync")
-        yield Place([".rsync"], "rsync")
-        yield Place(["rsync"], "rsync")
+                yield Place([start, name], way=RRDP, server=server_of(name))
+        yield Place([".rsync"], way=RSYNC)
+        yield Place(["rsync"], way=RSYNC)
     elif layout == "fort":
         for name in folders_of(top, "rrdp"):
-            yield Place(["rrdp", name], "rsync")
-        yield Place(["rsync"], "rsync")
+            yield Place(["rrdp", name], way=RRDP, server=server_of(name))
+        yield Place(["rsync"], way=RSYNC)
         yield Place(["https"], "https")
     else:
         yield from places_of_routinator(top)
@@ -156,9 +181,11 @@ def places_of_routinator(top):
         for host in folders_of(top, *start):
             for name in folders_of(top, *start, host):
                 names = [*start, host, name]
-                yield Place([*names, "rsync"] if is_folder(top, *names, "rsync") else names, "rsync")
-    for names in (["store", "rsync"], ["rsync"], ["ta", "rsync"]):
-        yield Place(names, "rsync")
+                names = [*names, "rsync"] if is_folder(top, *names, "rsync") else names
+                yield Place(names, way=RRDP, server=server_of(name, host))
+    for names in (["store", "rsync"], ["rsync"]):
+        yield Place(names, way=RSYNC)
+    yield Place(["ta", "rsync"])
     yield Place(["ta", "https"], "https")
 
 
@@ -171,26 +198,15 @@ def layout_of(top):
     return "fort" if is_folder(top, "rrdp") else "plain"
 
 
-def host_passes(names):
-    """Lists of hosts' names: in each no two that differ in case alone, since their URIs are the same."""
-    passes = []
-    seen = {}
-    for name in names:
-        number = seen.get(name.lower(), 0)
-        seen[name.lower()] = number + 1
-        if number == len(passes):
-            passes.append([])
-        passes[number].append(name)
-    return passes
-
-
 class Walk:
-    """A walk over a cache. `tell(why, path)` is called for what isn't taken, with its path below the cache."""
+    """A walk over a cache. `tell(why, path, octets)` is called for what isn't taken, with its path below the cache."""
 
-    def __init__(self, top, tell, skipped=()):
-        # `skipped`: device and number of folders that are passed over, such as the one that is being written
-        self.top, self.tell, self.skipped = top, tell, skipped
-        self.seen = 0
+    def __init__(self, top, tell, most, skipped=()):
+        # `most`: octets of a file; `skipped`: device and number of folders that are passed over, such as the one that is
+        # being written
+        self.top, self.tell, self.most, self.skipped = top, tell, most, skipped
+        # how many entries of a host were seen, and whether there are more, which aren't looked at
+        self.seen, self.is_cut = 0, False
 
     def hosts(self, place):
         """The names of the hosts' folders in a place."""
@@ -203,8 +219,8 @@ class Walk:
         try:
             self.seen = 0
             files, folders = self.entries(at, place.names)
-            for name in files:
-                self.tell(NO_HOST, "/".join((*place.names, name)))
+            for name, size in files:
+                self.tell(NO_HOST, "/".join((*place.names, name)), size)
             for name in folders:
                 if HOST.match(name):
                     found.append(name)
@@ -215,7 +231,7 @@ class Walk:
         return found
 
     def files_in(self, names):
-        """The names of the files in the folder at these names, if there is one."""
+        """The files in the folder at these names, if there is one, each a name and its octets."""
         try:
             at = open_below(self.top, names)
         except OSError:
@@ -225,6 +241,25 @@ class Walk:
             return self.entries(at, names)[0]
         finally:
             os.close(at)
+
+    def find(self, names, files):
+        """Of files of these names those that stand in a folder, each a name and its octets; the folder isn't listed."""
+        found = []
+        try:
+            at = open_below(self.top, names)
+        except OSError:
+            return found
+        try:
+            for name in filter(NAME.match, files):
+                try:
+                    status = os.stat(name, dir_fd=at, follow_symlinks=False)
+                except OSError:
+                    continue
+                if stat.S_ISREG(status.st_mode) and status.st_size <= self.most:
+                    found.append((name, status.st_size))
+        finally:
+            os.close(at)
+        return found
 
     def tell_place(self, place):
         """Tells of a place that is there and isn't a folder that can be read."""
@@ -242,13 +277,14 @@ class Walk:
             os.close(at)
 
     def entries(self, at, names):
-        """The names of the files and of the folders in an open folder, in order; others are told."""
+        """The files in an open folder, each a name and its octets, and the names of the folders, in order; others are told."""
         files, folders = [], []
         try:
             with os.scandir(at) as found:
                 for entry in found:
                     if self.seen == MOST_SEEN:
                         self.tell(TOO_MANY, "/".join(names) + "/..")
+                        self.is_cut = True
                         break
                     self.seen += 1
                     self.sort(entry, names, files, folders)
@@ -262,7 +298,10 @@ class Walk:
             if not NAME.match(entry.name):
                 why = NO_URI
             elif entry.is_file(follow_symlinks=False):
-                return files.append(entry.name)
+                size = entry.stat(follow_symlinks=False).st_size
+                if size <= self.most:
+                    return files.append((entry.name, size))
+                return self.tell(TOO_LARGE, "/".join((*names, entry.name)), size)
             elif entry.is_dir(follow_symlinks=False):
                 return folders.append(entry.name)
             else:
@@ -272,8 +311,8 @@ class Walk:
         self.tell(why, "/".join((*names, entry.name)))
 
     def below(self, place, host):
-        """Each folder of a host: the names that lead to it, its path below OUT, and the names of its files."""
-        self.seen = 0
+        """Each folder of a host: its path below OUT, and its files, each a name and its octets."""
+        self.seen, self.is_cut = 0, False
         try:
             at = open_below(self.top, (*place.names, host))
         except OSError:
@@ -288,7 +327,7 @@ class Walk:
                 return
             files, folders = self.entries(at, names)
             if files:
-                yield names, out, files
+                yield out, files
             for name in folders:
                 inner = (*names, name)
                 if level == MOST_FOLDERS or len(out) + 1 + len(name) > MOST_PATH:

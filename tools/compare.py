@@ -21,7 +21,8 @@ What no line says isn't known: that no object of the bundle lists it is all that
 alone never why OTHER lacks it. What an object lists is read here, outside what is proved.
 
 `rpki_check check` is run once for all refusals, `rpki_ask refusals` once for their reasons, and `rpki_ask why` once for each
-trust anchor that the bundle has: every good object is below one of them. --summary prints the summary alone.
+trust anchor that the bundle has: every good object is below one of them. The programs are crates/NAME/out/NAME, where these
+were proved and built, or else bin/NAME, which tools/build.py makes; the summary says which. --summary prints that alone.
 
 Exit status: 0 where both have the same, 1 where they differ, 2 for other arguments and for what can't be read or asked.
 """
@@ -37,10 +38,10 @@ import time
 
 sys.dont_write_bytecode = True
 
+import built  # noqa: E402
 from bundles import Bundle, Malformed, lookup_key  # noqa: E402
 from routes import BadRoutes, Customer, read  # noqa: E402
 
-CRATES = os.path.join(os.path.dirname(os.path.abspath(__file__)), os.pardir, "crates")
 SAME, DIFFERENT, FAULT = 0, 1, 2
 # So many certificates are looked at above an object; a bundle's chains have no more.
 MOST_ABOVE = 32
@@ -200,6 +201,8 @@ def summary(given, ours, other, sides, causes):
         yield f"{later} was made {by:,} s later"
     if ours.customers is None or other.customers is None:
         yield "customers aren't compared, since one of the two tells of none"
+    if given.bundle:
+        yield "asked: " + ", ".join(one.text() for one in given.programs)
     if given.bundle and ours.bundle is None:
         yield "OURS doesn't say which bundle it came of"
     both = len(ours.origins.keys() & other.origins.keys())
@@ -224,7 +227,7 @@ def compare(given):
     causes = [collections.Counter(), collections.Counter()]
     why = None
     if given.bundle:
-        programs = (given.checker, given.asker)
+        programs = [one.path for one in given.programs]
         why = Why(open_bundle(given, ours), programs, {*sides[0], *sides[1]}, ours, other)
     for side, items in enumerate(sides):
         for one in items:
@@ -244,10 +247,11 @@ def main():
     parser.add_argument("--bundle", metavar="B", help="the bundle of OURS, or a folder that validate.py kept")
     parser.add_argument("--summary", action="store_true", help="the summary alone")
     for name, program in (("checker", "rpki_check"), ("asker", "rpki_ask")):
-        path = os.path.join(CRATES, program, "out", program)
-        parser.add_argument(f"--{name}", metavar="PATH", default=path, help=f"the program {program}")
+        parser.add_argument(f"--{name}", metavar="PATH", help=f"the program {program}")
+    given = parser.parse_args()
+    given.programs = (built.find("rpki_check", given.checker), built.find("rpki_ask", given.asker))
     try:
-        return compare(parser.parse_args())
+        return compare(given)
     except (OSError, BadRoutes, Malformed, Fault) as why:
         print(f"compare.py: {why}", file=sys.stderr)
         return FAULT

@@ -4,6 +4,8 @@ A helper has one connection to the process that started it, and ends with it. It
 
   take    reads files, writes them into the folder that is being made, and checks what needs no other file; what was
           signed by another key goes to a file of its own, with the digests, and so do the keys of certificates
+  anchors, certs, manifests, digests
+          read copies for whoever chooses between them (`copies`)
   flush   writes out what is still kept back
   check   checks what waits in its file, by an index of all keys
   finish  writes the verdicts of its good signatures, sorted
@@ -22,8 +24,13 @@ import signal
 import struct
 
 import caches
+import faults
+import points
 import relaxed
+import rsa_keys
 import signed
+from copies import Copies, Folders
+from leaving import LeftOuts
 from summaries import Tally
 
 # Of a waiting signature: the signing key's identifier, the digests of message and signature, how many octets the
@@ -84,8 +91,9 @@ def kind_of(uri):
 class Counts:
     """What helpers count."""
 
-    def __init__(self):
-        self.left_out, self.not_good = Tally(), Tally()
+    def __init__(self, path):
+        # `path` is that of a file which has what is left out, a line each
+        self.left_out, self.not_good = LeftOuts(path), Tally()
         self.good, self.signatures = collections.Counter(), collections.Counter()
         self.differing = 0
 
@@ -97,24 +105,28 @@ class Counts:
         self.differing += other.differing
 
 
-# A part of a folder to take: the names that lead to it from the cache on, its path below OUT, the files to take, and those
-# that another place has already, which are compared.
-Part = collections.namedtuple("Part", "names out files same")
+# A part of a folder to take: its path below OUT; the folders in the cache that have copies, as the names that lead to each; the
+# names of the files; of each file in which of the folders copies of it stand (without: in the first); and of each the digest of
+# the copy to take, or None for the first (without: where copies differ none is taken).
+Part = collections.namedtuple("Part", "out folders files places wanted")
 
-# What was taken of a part: the octets of its files, and the names of those that couldn't be taken.
-Taken = collections.namedtuple("Taken", "octets missing")
+# What was taken of a part: the octets of its files and when the last of them was written; the names of those that couldn't be
+# taken, and of those whose copies differ.
+Taken = collections.namedtuple("Taken", "octets newest missing differing")
+
+TOO_MANY_ORIGINS = "more prefixes or providers than --max-origins-per-object"
 
 
-class Helper:
+class Helper(Copies):
     """One process's own files and counts."""
 
-    def __init__(self, number, top, work, folder, most, known, is_relaxed):
-        self.number, self.top, self.work, self.most, self.known = number, top, work, most, known
-        self.reader = relaxed.read if is_relaxed else signed.read
+    def __init__(self, number, top, work, folder, limits, known, is_relaxed):
+        super().__init__(top, limits.file, relaxed.read if is_relaxed else signed.read)
+        self.number, self.work, self.limits, self.known = number, work, limits, known
         self.folder = os.open(folder, caches.FOLDER)
         self.waiting = open(self.path("waiting", number), "xb+", buffering=BUFFER)
         self.keys = open(self.path("keys", number), "xb+", buffering=BUFFER)
-        self.verdicts, self.found_keys, self.counts = [], [], Counts()
+        self.verdicts, self.found_keys, self.counts = [], [], Counts(self.path("left", number))
         self.index, self.loaded, self.key_files = None, {}, {}
 
     def path(self, what, number):
@@ -127,26 +139,40 @@ class Helper:
         return taken, b"".join(keys)
 
     def take_part(self, part):
-        octets, missing = 0, []
-        try:
-            source = caches.open_below(self.top, part.names)
-        except OSError:
-            for name in [*part.files, *part.same]:
-                self.counts.left_out.add(caches.CHANGED, "/".join((*part.names, name)))
-            return Taken(0, list(part.files))
+        octets, newest, missing, differing = 0, 0, [], []
         target = self.open_target(part.out)
         try:
-            for name in part.files:
-                size = self.take_file(source, target, part, name)
-                octets += size or 0
-                if size is None:
-                    missing.append(name)
-            for name in part.same:
-                self.compare(source, target, part, name)
+            with Folders(self.top, part.folders) as folders:
+                for at, name in enumerate(part.files):
+                    found, count, faults = self.pick(folders, part, at)
+                    if count and part.wanted is None:
+                        differing.append(name)
+                        continue
+                    self.counts.differing += count
+                    for why, path in faults:
+                        self.counts.left_out.add(why, path)
+                    if found is None or not self.keep(target, part, name, found):
+                        missing.append(name)
+                        continue
+                    octets, newest = octets + len(found.octets), max(newest, found.when)
         finally:
-            os.close(source)
             os.close(target)
-        return Taken(octets, missing)
+        return Taken(octets, newest, missing, differing)
+
+    def pick(self, folders, part, at):
+        """The copy of a file that is to be taken, or None; how many copies have other octets; and why others can't be read."""
+        name, wanted = part.files[at], part.wanted and part.wanted[at]
+        found, digest, digests, faults = None, None, [], []
+        for number in part.places[at] if part.places else (0,):
+            try:
+                copy = folders.read(number, name, self.limits.file)
+            except caches.LeftOut as why:
+                faults.append((str(why), "/".join((*folders.names[number], name))))
+                continue
+            digests.append(hashlib.sha256(copy.octets).digest() if part.places else None)
+            if found is None or digests[-1] == wanted != digest:
+                found, digest = copy, digests[-1]
+        return found, sum(other != digest for other in digests), faults
 
     def open_target(self, out):
         """The open folder at that path below OUT, which is made where it isn't there."""
@@ -164,50 +190,33 @@ class Helper:
             front += "/"
         return os.open(out, caches.FOLDER, dir_fd=self.folder)
 
-    def octets_of(self, source, part, name):
-        """A file's octets, or None where it is left out."""
-        try:
-            return caches.read_file(source, name, self.most)
-        except caches.LeftOut as why:
-            self.counts.left_out.add(str(why), "/".join((*part.names, name)))
-            return None
-
-    def take_file(self, source, target, part, name):
-        """Copies a file and reads what is signed of it: its size, or None where it is left out."""
-        octets = self.octets_of(source, part, name)
-        if octets is None:
-            return None
-        file = os.open(name, os.O_WRONLY | os.O_CREAT | os.O_EXCL | os.O_NOFOLLOW | os.O_CLOEXEC, 0o666, dir_fd=target)
-        try:
-            written = os.write(file, octets)
-            while written < len(octets):
-                written += os.write(file, memoryview(octets)[written:])
-        finally:
-            os.close(file)
+    def keep(self, target, part, name, copy):
+        """Writes a file's copy and reads what is signed of it; not one that has too many rows, which is left out."""
         uri = f"{part.out.replace('/', '://', 1)}/{name}"
         try:
-            self.read(uri, octets)
+            found, fault = self.reader(copy.octets), None
+        except signed.Malformed as why:
+            found, fault = None, why
+        if isinstance(found, signed.Object):
+            most = self.limits.origins
+            if points.count_of(found.kind, found.content, most) > most:
+                self.counts.left_out.add(TOO_MANY_ORIGINS, "/".join((*copy.names, name)), len(copy.octets))
+                return False
+        write_in(target, name, copy.octets)
+        try:
+            if fault:
+                raise fault
+            self.note(uri, found)
         except signed.Malformed as why:
             self.not_good(uri, why)
-        return len(octets)
+        return True
 
     def not_good(self, uri, why):
         """Notes that an object lacks a verdict."""
         self.counts.not_good.add(f"{kind_of(uri)}: {why}", uri)
 
-    def compare(self, source, target, part, name):
-        """Counts a file whose octets differ from those that were taken."""
-        octets = self.octets_of(source, part, name)
-        if octets is None:
-            return
-        try:
-            self.counts.differing += octets != caches.read_file(target, name, self.most)
-        except caches.LeftOut:
-            pass
-
-    def read(self, uri, octets):
-        """Reads what is signed of an object."""
-        found = self.reader(octets)
+    def note(self, uri, found):
+        """Notes what is signed of an object."""
         if isinstance(found, signed.Object):
             self.wait_for_key(uri, found.cert)
             self.check_object(uri, found)
@@ -256,7 +265,7 @@ class Helper:
         encoded = signed.encoded_key(bits)
         message = hashlib.sha256(found.attributes).digest()
         verdict = hashlib.sha256(encoded).digest() + message + hashlib.sha256(found.signature).digest()
-        self.judge(uri, verdict, lambda: signed.load_key(encoded), message, found.signature)
+        self.judge(uri, verdict, lambda: rsa_keys.load_key(encoded), message, found.signature)
 
     def judge(self, uri, verdict, load, message, signature):
         """Keeps the verdict where the signature is good: by an earlier run, or by the key that `load` loads."""
@@ -270,7 +279,7 @@ class Helper:
                 signatures["no_key"] += 1
                 return self.not_good(uri, why)
             signatures["computed"] += 1
-            if not signed.has_signed(key, message, signature):
+            if not rsa_keys.has_signed(key, message, signature):
                 signatures["bad"] += 1
                 return self.not_good(uri, "a bad signature")
         self.verdicts.append(verdict)
@@ -305,7 +314,7 @@ class Helper:
             bits = os.pread(self.key_files[number], size, start)
             if len(self.loaded) >= MOST_LOADED:
                 self.loaded.clear()
-            self.loaded[row] = signed.load_key(signed.encoded_key(bits))
+            self.loaded[row] = rsa_keys.load_key(signed.encoded_key(bits))
         return self.loaded[row]
 
     def finish(self):
@@ -314,7 +323,19 @@ class Helper:
         self.verdicts.sort()
         with open(path, "xb", buffering=BUFFER) as file:
             file.writelines(map(line_of, self.verdicts))
+        self.counts.left_out.close()
         return path, self.counts
+
+
+def write_in(folder, name, octets):
+    """Writes a file that isn't there yet into an open folder."""
+    file = os.open(name, os.O_WRONLY | os.O_CREAT | os.O_EXCL | os.O_NOFOLLOW | os.O_CLOEXEC, 0o666, dir_fd=folder)
+    try:
+        written = os.write(file, octets)
+        while written < len(octets):
+            written += os.write(file, memoryview(octets)[written:])
+    finally:
+        os.close(file)
 
 
 def die_with_parent(parent):
@@ -342,8 +363,9 @@ def serve(link, others, parent, *words):
             link.send((True, getattr(helper, name)(*given)))
     except (EOFError, BrokenPipeError, ConnectionResetError):
         pass
-    except (OSError, MemoryError) as why:
-        link.send((False, str(why) or "out of memory"))
+    except Exception as why:
+        # (the process that started this one tells it, and ends)
+        link.send((False, faults.told(why)))
 
 
 class Helpers:
@@ -374,17 +396,25 @@ class Helpers:
         try:
             is_good, answer = link.recv()
         except (EOFError, ConnectionResetError):
-            raise OSError("a helper process ended") from None
+            raise self.ended(link) from None
         if not is_good:
-            raise OSError(answer)
+            raise answer
         return answer
+
+    def ended(self, link):
+        """That a helper came to its end without an answer."""
+        process = self.processes[self.links.index(link)]
+        process.join(1)
+        if process.exitcode == -signal.SIGKILL:
+            return faults.Fault(faults.MEMORY, "a helper process was killed, as it is where memory is short")
+        return OSError("a helper process ended")
 
     def send(self, link, name, given):
         try:
             link.send((name, given))
         except (BrokenPipeError, ConnectionResetError):
             self.answer(link)
-            raise OSError("a helper process ended") from None
+            raise self.ended(link) from None
 
     def each(self, name, *given):
         """The answers of all helpers to one request."""
@@ -392,14 +422,15 @@ class Helpers:
             self.send(link, name, given)
         return [self.answer(link) for link in self.links]
 
-    def spread(self, name, pieces):
-        """Hands each piece to a helper that has nothing to do: pieces with their answers, as they come."""
+    def spread(self, name, pieces, words=lambda piece: piece):
+        """Hands each piece, by what `words` makes of it, to a helper that has nothing to do: pieces with their answers, as they
+        come."""
         idle, busy = list(self.links), {}
         for piece in pieces:
             if not idle:
                 yield from self.answered(busy, idle)
             link = idle.pop()
-            self.send(link, name, (piece,))
+            self.send(link, name, (words(piece),))
             busy[link] = piece
         while busy:
             yield from self.answered(busy, idle)

@@ -16,18 +16,22 @@ have, but for lines whose `expires` has come: --lifetime after the moment (a day
 doesn't tell its trust anchor either, so --name (`rpki_check` unless it is given) stands in its place. Refusals are counted
 by cause, in the JSON and on standard error.
 
-Exit status: 0; 1 where a line is none of `rpki_check`'s, with its number, and then nothing was written; 2 for other
-arguments.
+Lines are copied to a temporary file and read as often as the form wants, so that memory doesn't grow with them.
+
+Exit status: 0; 1 where a line is none of `rpki_check`'s, with its number, and then nothing was written, or where a file
+can't be written; 2 for other arguments.
 """
 
 import argparse
 import calendar
 import collections
-import io
+import hashlib
 import json
 import re
+import shutil
 import socket
 import sys
+import tempfile
 import time
 
 ORIGIN = re.compile(r"roa AS(0|[1-9][0-9]{0,9}) ([0-9a-f.:]+)/(0|[1-9][0-9]{0,2}) (0|[1-9][0-9]{0,2})")
@@ -35,6 +39,8 @@ PROVIDERS = re.compile(r"aspa AS(0|[1-9][0-9]{0,9})((?: AS(?:0|[1-9][0-9]{0,9}))
 REFUSAL = re.compile(r"refused (\S+) (tal|anchor|point|object|loop|depth)")
 MOST_AS = 2**32 - 1
 TOOL = "rpki_check"
+# So many characters are gathered before they are written.
+PIECE = 1 << 16
 # So long lines are told after their moment, in seconds: as long as StayRTR takes a file that it starts with.
 LIFETIME = 86_400
 # What may stand in the place of a trust anchor's name, in JSON, in a row of CSV and in a comment.
@@ -47,6 +53,10 @@ class BadLine(Exception):
 
 # An origin: the AS number, the prefix's text and length, the greatest length.
 Origin = collections.namedtuple("Origin", "asn prefix length greatest")
+# A customer with its providers.
+Customer = collections.namedtuple("Customer", "asn providers")
+# What is refused, by its name, and the cause.
+Refusal = collections.namedtuple("Refusal", "name cause")
 
 
 class How(collections.namedtuple("How", "name moment lifetime aspa more", defaults=(None, None, 0, True, {}))):
@@ -62,26 +72,15 @@ class How(collections.namedtuple("How", "name moment lifetime aspa more", defaul
         return self.seconds() + self.lifetime if self.moment and self.lifetime else None
 
 
-class Lines:
-    """What the lines say: origins, customers with their providers, and refusals as pairs of name and cause."""
+class Counts(collections.namedtuple("Counts", "path origins customers causes locators")):
+    """What a file of lines has: how many origins and customers, how many refusals of each cause, and of refusals with the
+    causes `tal` and `anchor` each locator's name and the cause."""
 
-    def __init__(self):
-        self.origins, self.customers, self.refusals = [], [], []
-
-    def add(self, line):
-        if found := ORIGIN.fullmatch(line):
-            self.origins.append(origin_of(*found.groups()))
-        elif found := PROVIDERS.fullmatch(line):
-            providers = [number(text.removeprefix("AS")) for text in found[2].split()]
-            self.customers.append((number(found[1]), providers))
-        elif found := REFUSAL.fullmatch(line):
-            self.refusals.append(found.groups())
-        else:
-            raise BadLine(line)
-
-    def causes(self):
-        """How many refusals each cause has."""
-        return dict(sorted(collections.Counter(cause for _, cause in self.refusals).items()))
+    def each(self, kind):
+        """The origins or the customers of the file, one after another: `kind` is Origin or Customer."""
+        start = b"roa " if kind is Origin else b"aspa "
+        with open(self.path, "rb") as file:
+            yield from (known(octets) for octets in file if octets.startswith(start))
 
 
 def number(text):
@@ -104,18 +103,67 @@ def origin_of(asn, address, length, greatest):
     return Origin(number(asn), f"{address}/{length}", int(length), int(greatest))
 
 
-def read(text):
-    """The lines of a text, each ended by LF."""
-    lines = Lines()
-    parts = text.split("\n")
-    if parts[-1]:
+def parsed(octets):
+    """What a line says, which ends in LF: an Origin, a Customer or a Refusal."""
+    if not octets.endswith(b"\n"):
         raise BadLine("the last line has no end")
-    for count, line in enumerate(parts[:-1], 1):
-        try:
-            lines.add(line)
-        except BadLine as why:
-            raise BadLine(f"line {count}: {why}") from None
-    return lines
+    try:
+        line = octets[:-1].decode("ascii")
+    except UnicodeDecodeError:
+        raise BadLine(f"{octets[:80]!r} isn't ASCII") from None
+    if found := ORIGIN.fullmatch(line):
+        return origin_of(*found.groups())
+    if found := PROVIDERS.fullmatch(line):
+        return Customer(number(found[1]), [number(text.removeprefix("AS")) for text in found[2].split()])
+    if found := REFUSAL.fullmatch(line):
+        return Refusal(*found.groups())
+    raise BadLine(line)
+
+
+def known(octets):
+    """What a line says that was read before and is no refusal."""
+    kind, asn, *rest = octets.decode("ascii").split()
+    if kind == "roa":
+        return Origin(int(asn[2:]), rest[0], int(rest[0].partition("/")[2]), int(rest[1]))
+    return Customer(int(asn[2:]), [int(text[2:]) for text in rest])
+
+
+def count(path):
+    """Reads a file of lines once; raises BadLine, with the number of the line that is none."""
+    kinds, causes, locators = collections.Counter(), collections.Counter(), []
+    with open(path, "rb") as file:
+        for place, octets in enumerate(file, 1):
+            try:
+                one = parsed(octets)
+            except BadLine as why:
+                raise BadLine(f"line {place}: {why}") from None
+            kinds[type(one)] += 1
+            if isinstance(one, Refusal):
+                causes[one.cause] += 1
+                locators += [one] if one.cause in ("tal", "anchor") else []
+    return Counts(path, kinds[Origin], kinds[Customer], dict(sorted(causes.items())), locators)
+
+
+def write(form, counts, how, out):
+    """Writes the lines that were counted in a form to a binary file; the SHA-256 digest of what was written, in hexadecimal.
+    The memory that it takes doesn't grow with the lines."""
+    digest = hashlib.sha256()
+    for octets in gathered(FORMS[form](counts, how)):
+        digest.update(octets)
+        out.write(octets)
+    return digest.hexdigest()
+
+
+def gathered(pieces):
+    """Pieces of text as fewer pieces of octets."""
+    part, size = [], 0
+    for piece in pieces:
+        part.append(piece)
+        size += len(piece)
+        if size >= PIECE:
+            yield "".join(part).encode("ascii")
+            part, size = [], 0
+    yield "".join(part).encode("ascii")
 
 
 def is_moment(text):
@@ -126,75 +174,86 @@ def is_moment(text):
         return False
 
 
-def metadata(lines, how):
+def metadata(counts, how):
     """What the JSON tells of itself: the moment of validation twice, and counts, by rpki-client's names."""
     times = {}
     if how.moment:
         built = time.strftime("%Y-%m-%dT%H:%M:%SZ", time.gmtime(how.seconds()))
         times = {"buildtime": built, "generated": how.seconds()}
-    counts = {"vrps": len(lines.origins), "uniquevrps": len(lines.origins)}
+    numbers = {"vrps": counts.origins, "uniquevrps": counts.origins}
     if how.aspa:
-        counts |= {"vaps": len(lines.customers), "uniquevaps": len(lines.customers)}
-    return {"tool": TOOL, **times, **counts, "refused": lines.causes(), **how.more}
+        numbers |= {"vaps": counts.customers, "uniquevaps": counts.customers}
+    return {"tool": TOOL, **times, **numbers, "refused": counts.causes, **how.more}
 
 
 def enclosed(rows, depth, ends="[]"):
-    """A JSON list or object with a row on each line."""
-    indent = "\n" + "  " * depth
-    return f"{ends[0]}{indent}{f',{indent}'.join(rows)}{indent[:-2]}{ends[1]}" if rows else ends
+    """A JSON list or object with a row on each line, piece by piece."""
+    indent, before = "\n" + "  " * depth, ends[0]
+    for row in rows:
+        yield f"{before}{indent}{row}"
+        before = ","
+    yield ends if before != "," else indent[:-2] + ends[1]
 
 
-def to_json(lines, how):
+def to_json(counts, how):
     name, expiry = json.dumps(how.name or TOOL), how.expiry()
     ends = f', "expires": {expiry}' if expiry else ""
-    origins = [
-        f'{{ "asn": {one.asn}, "prefix": "{one.prefix}", "maxLength": {one.greatest}, "ta": {name}{ends} }}'
-        for one in lines.origins
-    ]
-    told = [f"{json.dumps(key)}: {json.dumps(value)}" for key, value in metadata(lines, how).items()]
-    parts = [f'"metadata": {enclosed(told, 2, "{}")}', f'"roas": {enclosed(origins, 2)}']
-    if how.aspa:
-        customers = [
-            f'{{ "customer_asid": {asn}{ends}, "providers": {providers} }}' for asn, providers in lines.customers
-        ]
-        both = [f'"{family}": {enclosed(customers, 3)}' for family in ("ipv4", "ipv6")]
-        parts.append(f'"aspas": {enclosed(customers, 2)}')
-        parts.append(f'"provider_authorizations": {enclosed(both, 2, "{}")}')
-    return enclosed(parts, 1, "{}") + "\n"
-
-
-def to_openbgpd(lines, how):
-    ends = f" expires {how.expiry()}" if how.expiry() else ""
+    told = (f"{json.dumps(key)}: {json.dumps(value)}" for key, value in metadata(counts, how).items())
     origins = (
-        f"\t{one.prefix}{f' maxlen {one.greatest}' if one.greatest != one.length else ''} source-as {one.asn}{ends}\n"
-        for one in lines.origins
+        f'{{ "asn": {one.asn}, "prefix": "{one.prefix}", "maxLength": {one.greatest}, "ta": {name}{ends} }}'
+        for one in counts.each(Origin)
     )
-    customers = (
-        f"\tcustomer-as {asn}{ends} provider-as {{ {' '.join(map(str, providers))} }}\n"
-        for asn, providers in lines.customers
-    )
-    attested = f"\naspa-set {{\n{''.join(customers)}}}\n" if how.aspa else ""
+    yield '{\n  "metadata": '
+    yield from enclosed(told, 2, "{}")
+    yield ',\n  "roas": '
+    yield from enclosed(origins, 2)
+    if how.aspa:
+        yield ',\n  "aspas": '
+        yield from enclosed(customers_in_json(counts, ends), 2)
+        yield ',\n  "provider_authorizations": {\n    "ipv4": '
+        yield from enclosed(customers_in_json(counts, ends), 3)
+        yield ',\n    "ipv6": '
+        yield from enclosed(customers_in_json(counts, ends), 3)
+        yield "\n  }"
+    yield "\n}\n"
+
+
+def customers_in_json(counts, ends):
+    for one in counts.each(Customer):
+        yield f'{{ "customer_asid": {one.asn}{ends}, "providers": {one.providers} }}'
+
+
+def to_openbgpd(counts, how):
+    ends = f" expires {how.expiry()}" if how.expiry() else ""
     moment = f", {how.moment}" if how.moment else ""
-    return f"# {how.name or TOOL}{moment}\nroa-set {{\n{''.join(origins)}}}\n{attested}"
+    yield f"# {how.name or TOOL}{moment}\nroa-set {{\n"
+    for one in counts.each(Origin):
+        most = f" maxlen {one.greatest}" if one.greatest != one.length else ""
+        yield f"\t{one.prefix}{most} source-as {one.asn}{ends}\n"
+    yield "}\n"
+    if how.aspa:
+        yield "\naspa-set {\n"
+        for one in counts.each(Customer):
+            yield f"\tcustomer-as {one.asn}{ends} provider-as {{ {' '.join(map(str, one.providers))} }}\n"
+        yield "}\n"
 
 
-def to_csv(lines, how):
-    out = io.StringIO()
-    out.write("ASN,IP Prefix,Max Length,Trust Anchor\n" if how.name else "ASN,Prefix,Max prefix length\n")
+def to_csv(counts, how):
+    yield "ASN,IP Prefix,Max Length,Trust Anchor\n" if how.name else "ASN,Prefix,Max prefix length\n"
     end = f",{how.name}\n" if how.name else "\n"
-    out.writelines(f"AS{one.asn},{one.prefix},{one.greatest}{end}" for one in lines.origins)
-    return out.getvalue()
+    for one in counts.each(Origin):
+        yield f"AS{one.asn},{one.prefix},{one.greatest}{end}"
 
 
 FORMS = {"json": to_json, "openbgpd": to_openbgpd, "csv": to_csv}
 
 
-def unsaid(form, lines, how):
+def unsaid(form, counts, how):
     """What the form leaves out, a line each."""
     if form == "json" and not how.moment:
         yield "no --moment: StayRTR doesn't start with a file that has no build time"
-    if lines.customers and (form == "csv" or not how.aspa):
-        yield f"attestations of providers left out: {len(lines.customers)}"
+    if counts.customers and (form == "csv" or not how.aspa):
+        yield f"attestations of providers left out: {counts.customers}"
 
 
 def name(text):
@@ -231,15 +290,20 @@ def main():
     given = parser.parse_args()
     how = How(given.name, given.moment, given.lifetime, not given.no_aspa)
     try:
-        lines = read(sys.stdin.buffer.read().decode("ascii"))
-    except (BadLine, UnicodeDecodeError) as why:
-        print(f"lines_to.py: not lines of rpki_check: {why}", file=sys.stderr)
+        with tempfile.NamedTemporaryFile() as lines:
+            shutil.copyfileobj(sys.stdin.buffer, lines)
+            lines.flush()
+            counts = count(lines.name)
+            write(given.form, counts, how, sys.stdout.buffer)
+            sys.stdout.flush()
+    except (BadLine, OSError) as why:
+        is_line = isinstance(why, BadLine)
+        print(f"lines_to.py: {'not lines of rpki_check: ' if is_line else ''}{why}", file=sys.stderr)
         return 1
-    sys.stdout.write(FORMS[given.form](lines, how))
-    for text in unsaid(given.form, lines, how):
+    for text in unsaid(given.form, counts, how):
         print(text, file=sys.stderr)
-    for cause, count in lines.causes().items():
-        print(f"refused, {cause}: {count}", file=sys.stderr)
+    for cause, number_of in counts.causes.items():
+        print(f"refused, {cause}: {number_of}", file=sys.stderr)
     return 0
 
 

@@ -1,4 +1,4 @@
-"""Which authority keeps a bundle's lines from coming out in time, and the bundle without what it publishes.
+"""Which authority keeps a bundle's lines from coming out in time.
 
 The rules go over chains of certificates, and chains multiply where authorities certify each other's keys: a few hundred
 objects can have more chains than can be walked. `rpki_ask cost` says of each authority how many accepted chains go on below
@@ -15,7 +15,7 @@ the folder that a certificate names may have others' folders in it.
 import collections
 import re
 
-from bundles import BOOLEAN, OID, Bundle, Der, Malformed, lookup_key
+from bundles import BOOLEAN, OID, Bundle, Malformed, lookup_key
 from relaxed import CONSTRUCTED, Values
 from signed import INTEGER, OCTET_STRING, SEQUENCE, SET, TAG_0, TAG_3
 from signed import Malformed as Unsigned
@@ -33,8 +33,6 @@ MOST_LOOKED_AT = 40
 MOST_READ = 2
 # `cost` counts so many chains at least.
 LEAST_BUDGET = 10_000
-# So many octets are copied at a time.
-PIECE = 1 << 20
 
 # An authority's certificate: its key's identifier, and the lookup keys of what it names.
 Authority = collections.namedtuple("Authority", "key repository manifest")
@@ -227,54 +225,3 @@ def find(path, text, is_least):
     same = [authorities.at(one) for one, _ in rows if authorities.at(one).key == key]
     manifests = sorted({one.manifest for one in same} & bundle.places.keys())
     return Found(uri, chains, is_least, manifests) if manifests else None
-
-
-def write_without(path, made, uris):
-    """Writes the bundle without the objects at these URIs."""
-    octets = Bundle(path).octets
-    whole = Der(octets).of(SEQUENCE)
-    front = whole.at
-    # (version, moment, depth and, of version 1, a flag; locators)
-    while whole.tag() != SEQUENCE:
-        whole.next()
-    whole.next()
-    middle = whole.at
-    objects = whole.of(SEQUENCE)
-    kept = list(spans_without(objects, uris))
-    size = sum(end - start for start, end in kept)
-    head = header(SEQUENCE, size)
-    rest = (whole.at, whole.end)
-    with open(made, "xb") as file:
-        file.write(header(SEQUENCE, middle - front + len(head) + size + rest[1] - rest[0]))
-        copy(octets, front, middle, file)
-        file.write(head)
-        for start, end in kept:
-            copy(octets, start, end, file)
-        copy(octets, *rest, file)
-
-
-def spans_without(objects, uris):
-    """Where the rows of the objects stand whose URI is none of these; rows that follow each other are one."""
-    start = objects.at
-    while objects.tag() is not None:
-        at = objects.at
-        row = objects.of(SEQUENCE)
-        if row.of(IA5_STRING).rest().decode("ascii", "replace") in uris:
-            if start < at:
-                yield start, at
-            start = objects.at
-    if start < objects.at:
-        yield start, objects.at
-
-
-def header(tag, size):
-    """A tag and a length in DER."""
-    if size < 0x80:
-        return bytes((tag, size))
-    length = size.to_bytes((size.bit_length() + 7) // 8, "big")
-    return bytes((tag, 0x80 + len(length))) + length
-
-
-def copy(octets, start, end, file):
-    for at in range(start, end, PIECE):
-        file.write(octets[at : min(at + PIECE, end)])

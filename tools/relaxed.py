@@ -150,6 +150,16 @@ def read_cert(values):
     return signed.Cert(subject, authority or subject, bits, message, signature)
 
 
+def read_content(values):
+    """The type and the octets of a signed object's content (RFC 5652 5.2), each None where they can't be read."""
+    try:
+        start, stop = values.next(OID, "the content's type")
+        octets = values.inside(TAG_0, "the content").string(OCTET_STRING, "the content")
+        return values.octets[start:stop], octets
+    except Malformed:
+        return None, None
+
+
 def read_object(octets):
     """The signed object in front of the octets (RFC 5652 3 and 5, RFC 6488 2)."""
     info = Values(octets, 0, len(octets), {}).inside(SEQUENCE, "the signed object")
@@ -157,7 +167,8 @@ def read_object(octets):
     if signed.der(OID, octets[start:stop]) != signed.SIGNED_DATA:
         raise Malformed("the object's type isn't that of signed data")
     data = info.inside(TAG_0, "the signed data").inside(SEQUENCE, "the signed data")
-    data.skip(*signed.BEFORE_CERT)
+    data.skip(*signed.BEFORE_CONTENT)
+    content = read_content(data.inside(SEQUENCE, "the content"))
     cert = read_cert(data.inside(TAG_0, "the object's certificate"))
     signer = data.inside(SET, "the signers").inside(SEQUENCE, "the signer")
     signer.skip((INTEGER, "the signer's version"))
@@ -166,7 +177,7 @@ def read_object(octets):
     start, stop = signer.next(TAG_0, "the signed attributes")
     signer.skip((SEQUENCE, "the signature's algorithm"))
     signature = signer.string(OCTET_STRING, "the signature")
-    return signed.Object(cert, signed.der(SET, octets[start:stop]), signature)
+    return signed.Object(cert, signed.der(SET, octets[start:stop]), signature, *content)
 
 
 def read(octets):

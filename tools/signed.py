@@ -1,4 +1,4 @@
-"""What is signed in certificates, revocation lists and signed objects, and the RSA keys that sign it.
+"""What is signed in certificates, revocation lists and signed objects, and by which keys; `rsa_keys` checks the signatures.
 
 Octets are read by where their values stand: nothing is copied but what is digested or checked. What a file is, its first
 values tell, not its name. A reader here asks for less than the profiles do (RFC 6487, RFC 6488): whatever a validator
@@ -8,13 +8,6 @@ accepts is found, and of what it refuses nothing has to be. Lengths are those of
 
 import collections
 import hashlib
-import warnings
-
-from cryptography.exceptions import InternalError, InvalidSignature, UnsupportedAlgorithm
-from cryptography.hazmat.primitives import hashes
-from cryptography.hazmat.primitives.asymmetric import padding, rsa
-from cryptography.hazmat.primitives.asymmetric.utils import Prehashed
-from cryptography.hazmat.primitives.serialization import load_der_public_key
 
 BOOLEAN, INTEGER, BIT_STRING, OCTET_STRING, OID = 0x01, 0x02, 0x03, 0x04, 0x06
 SEQUENCE, SET = 0x30, 0x31
@@ -34,10 +27,6 @@ IDENTIFIER_OCTETS = 20
 MOST_MODULUS_BITS, MOST_EXPONENT_BITS = 4096, 64
 MOST_SIGNATURE_OCTETS = MOST_MODULUS_BITS // 8
 
-# (of small keys `cryptography` warns)
-warnings.filterwarnings("ignore", module="cryptography")
-PADDING, PREHASHED = padding.PKCS1v15(), Prehashed(hashes.SHA256())
-
 
 class Malformed(Exception):
     """Octets that aren't what was to be read; the text says what was expected."""
@@ -50,8 +39,9 @@ Cert = collections.namedtuple("Cert", "identifier authority bits message signatu
 # A revocation list, in the same words.
 List = collections.namedtuple("List", "authority message signature")
 
-# A signed object: its certificate, the attributes as they are signed, and their signature.
-Object = collections.namedtuple("Object", "cert attributes signature")
+# A signed object: its certificate, the attributes as they are signed, their signature, and its content's type (the identifier's
+# octets) and octets, where these can be read.
+Object = collections.namedtuple("Object", "cert attributes signature kind content")
 
 
 def header(octets, at, end):
@@ -186,12 +176,23 @@ def read_list(octets, at, end):
     return List(authority, octets[at:stop], signature)
 
 
-BEFORE_CERT = ((INTEGER, "the object's version"), (SET, "the digest algorithms"), (SEQUENCE, "the content"))
+BEFORE_CONTENT = ((INTEGER, "the object's version"), (SET, "the digest algorithms"))
 BEFORE_ATTRIBUTES = (
     (INTEGER, "the signer's version"),
     (OCTETS_0, "the signer's key identifier"),
     (SEQUENCE, "the digest's algorithm"),
 )
+
+
+def content_at(octets, at, end):
+    """The type and the octets of a signed object's content (RFC 5652 5.2), each None where they can't be read."""
+    try:
+        start, at = enter(octets, at, end, OID, "the content's type")
+        kind = octets[start:at]
+        start, stop = enter(octets, *enter(octets, at, end, TAG_0, "the content"), OCTET_STRING, "the content")
+        return kind, octets[start:stop]
+    except Malformed:
+        return None, None
 
 
 def read_object(octets, at, end):
@@ -201,7 +202,9 @@ def read_object(octets, at, end):
         raise Malformed("the object's type isn't that of signed data")
     at, end = enter(octets, at + len(SIGNED_DATA), end, TAG_0, "the signed data")
     at, end = enter(octets, at, end, SEQUENCE, "the signed data")
-    at = skip(octets, at, end, *BEFORE_CERT)
+    at = skip(octets, at, end, *BEFORE_CONTENT)
+    start, at = enter(octets, at, end, SEQUENCE, "the content")
+    content = content_at(octets, start, at)
     cert, at = enter(octets, at, end, TAG_0, "the object's certificate")
     cert = read_cert(octets, cert, at)
     at, end = enter(octets, at, end, SET, "the signers")
@@ -212,7 +215,7 @@ def read_object(octets, at, end):
     at = skip(octets, at, end, (SEQUENCE, "the signature's algorithm"))
     start, stop = enter(octets, at, end, OCTET_STRING, "the signature")
     # the attributes are signed as a SET (RFC 5652 5.4)
-    return Object(cert, der(SET, attributes), octets[start:stop])
+    return Object(cert, der(SET, attributes), octets[start:stop], *content)
 
 
 def read(octets):
@@ -250,24 +253,3 @@ def check_size(bits):
         raise Malformed(f"the key has more than {MOST_MODULUS_BITS:,} bits")
     if int.from_bytes(bits[start : min(exponent_stop, start + 16)], "big").bit_length() > MOST_EXPONENT_BITS:
         raise Malformed(f"the key's exponent has more than {MOST_EXPONENT_BITS} bits")
-
-
-def load_key(encoded):
-    """The key of these octets, for `has_signed`."""
-    try:
-        key = load_der_public_key(encoded)
-    except (ValueError, TypeError, OverflowError, UnsupportedAlgorithm):
-        key = None
-    if not isinstance(key, rsa.RSAPublicKey):
-        raise Malformed("the key isn't one of RSA")
-    return key
-
-
-def has_signed(key, digest, signature):
-    """Whether the signature is good by the key over what has that SHA-256 digest (RFC 8017 8.2.2, RFC 7935 2)."""
-    try:
-        key.verify(signature, digest, PADDING, PREHASHED)
-    except (InvalidSignature, ValueError, InternalError):
-        # (a value error: the key is too short for any signature)
-        return False
-    return True

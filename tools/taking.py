@@ -1,4 +1,4 @@
-"""Which files of a cache are taken into the folder that is being made, and how many that may have."""
+"""Which files of a cache there are for the folder that is being made, where copies of each stand, and what is handed to helpers."""
 
 import os
 import re
@@ -8,16 +8,16 @@ from helpers import Part
 
 # What `rpki_check bundle` takes: entries of all folders, and octets of a bundle, whose lengths have 32 bits.
 MOST_ENTRIES, MOST_OCTETS = 1_000_000, (1 << 32) - (1 << 24)
-# One host may have so much of it, so that it takes no other's place.
-SHARE = 2
 # What a bundle has of an object besides its URI and octets: lengths, and two verdicts.
 BESIDES = 256
-# So many files are handed to a helper at once.
+# So many copies are handed to a helper at once.
 PIECE_FILES = 200
+# A copy is kept as one number: octets above, and below in so many bits the number of its root.
+ROOT_BITS = 32
+ROOT_MASK = (1 << ROOT_BITS) - 1
 
-NO_ROOM = "more than rpki_check takes: entries"
 NO_OCTETS = "more than rpki_check takes: octets"
-CLASH = "a file or a folder of an earlier place has its path"
+CLASH = "a folder has its path, or a file has that of its folder"
 
 URI = re.compile(r"(rsync://[!-.0-~]+/[!-.0-~]+(/[!-~]*)?|https://[!-.0-~]+(/[!-~]*)?)\Z")
 
@@ -34,150 +34,224 @@ def path_of(uri):
     return found if len(names) < caches.MOST_FOLDERS and len(found) <= caches.MOST_PATH else None
 
 
-def explicit_parts(walk, tals):
-    """The trust anchors that rpki-client keeps under their locators' names: names, path below OUT, and file of each."""
-    for name, _, uris in tals:
+def uri_of(path):
+    """The URI of the object with that path below OUT."""
+    return path.replace("/", "://", 1)
+
+
+def anchor_files(walk, tals):
+    """The trust anchors that rpki-client keeps under their locators' names: the root, path below OUT, and file of each."""
+    for name, _, uris, _ in tals:
         for start in ("ta", ".ta"):
-            for file in walk.files_in((start, name)):
+            root = caches.Root(caches.Place([start, name]), fixed=(start, name))
+            for file, size in walk.files_in((start, name)):
                 for path in filter(None, map(path_of, uris)):
                     out, _, last = path.rpartition("/")
                     if last == file and file.lower().endswith(".cer"):
-                        yield (start, name), out, [file]
+                        yield root, out, [(file, size)]
 
 
 def pieces_of(parts):
-    """The parts in lists of so many files that a helper has some work and others don't wait for it."""
+    """The parts in lists of so many copies that a helper has some work and others don't wait for it."""
     piece, count = [], 0
     for part in parts:
-        for files, same in slices(part):
-            piece.append(part._replace(files=files, same=same))
-            count += len(files) + len(same)
-            if count >= PIECE_FILES:
-                yield piece
-                piece, count = [], 0
+        piece.append(part)
+        count += len(part.files) if part.places is None else sum(map(len, part.places))
+        if count >= PIECE_FILES:
+            yield piece
+            piece, count = [], 0
     if piece:
         yield piece
 
 
-def slices(part):
-    """A part's files in turn, and those to compare, so many at most."""
-    for at in range(0, len(part.files), PIECE_FILES):
-        yield part.files[at : at + PIECE_FILES], []
-    for at in range(0, len(part.same), PIECE_FILES):
-        yield [], part.same[at : at + PIECE_FILES]
+class Listing:
+    """What a cache has: of each folder, by its path below OUT, the files by their names, each with where its copies stand."""
+
+    def __init__(self, tell, entries):
+        # `entries` are those that OUT has besides objects
+        self.tell, self.entries = tell, entries
+        self.roots, self.folders, self.clashes = [], {}, set()
+        # the numbers of the roots that weren't listed to their end, by scheme and host
+        self.cut = {}
+        self.count = self.octets = 0
+
+    def add_root(self, root):
+        self.roots.append(root)
+        return len(self.roots) - 1
+
+    def add(self, number, out, files):
+        """Adds the files of a folder, each a name and its octets, that stand below the root of that number."""
+        held = self.folder(out)
+        before = len(held)
+        for name, size in files:
+            copy = size << ROOT_BITS | number
+            other = held.get(name)
+            if isinstance(other, list):
+                other.append(copy)
+            elif other is not None:
+                held[name] = [other, copy]
+            elif len(out) + 1 + len(name) > caches.MOST_PATH:
+                self.tell(caches.TOO_LONG, "/".join((*self.roots[number].names(out), name)), size)
+            else:
+                held[name] = copy
+                self.octets += size + len(out) + len(name) + BESIDES
+                if f"{out}/{name}" in self.folders:
+                    self.clashes.add(f"{out}/{name}")
+        self.count += len(held) - before
+
+    def add_cut(self, number, out):
+        """Notes that the root of that number has more than was listed of this host."""
+        self.cut.setdefault(out, []).append(number)
+
+    def look(self, walk, out, names):
+        """Adds the files of these names in a folder that weren't listed, where the host has more than was listed."""
+        for number in self.cut.get("/".join(out.split("/")[:2]), ()):
+            held = self.folders.get(out, {})
+            missing = [name for name in names if name not in held or number not in roots_of(held[name])]
+            found = walk.find(self.roots[number].names(out), missing)
+            if found:
+                self.add(number, out, found)
+
+    def folder(self, out):
+        """The files of a folder, which is added with those around it where it isn't there."""
+        held = self.folders.get(out)
+        if held is not None:
+            return held
+        made, path = self.folders.setdefault(out, {}), out
+        while "/" in path:
+            above, _, name = path.rpartition("/")
+            if name in self.folders.get(above, ()):
+                self.clashes.add(path)
+            if above in self.folders:
+                break
+            self.folders[above] = {}
+            path = above
+        return made
+
+    def is_over(self):
+        """Whether there is more than one bundle takes."""
+        return self.octets > MOST_OCTETS or self.entries + self.count + len(self.folders) > MOST_ENTRIES
+
+    def heaviest(self):
+        """The octets of the folder that has most."""
+        return max((sum(map(size_of, held.values())) for held in self.folders.values()), default=0)
+
+    def copies(self, path):
+        """The numbers of the roots below which copies of a path stand, in order."""
+        out, _, name = path.rpartition("/")
+        found = self.folders.get(out, {}).get(name)
+        return [] if found is None else roots_of(found)
+
+    def place(self, number, path):
+        """The names that lead to the folder of a path's copy, below the root of that number."""
+        return self.roots[number].names(path.rpartition("/")[0])
+
+    def several(self):
+        """The paths of which more than one copy stands there."""
+        for out, held in self.folders.items():
+            yield from (f"{out}/{name}" for name, found in held.items() if isinstance(found, list))
+
+    def remove(self, out, name):
+        """Takes a file back, all its copies: its octets."""
+        found = self.folders[out].pop(name)
+        self.count -= 1
+        self.octets -= size_of(found) + len(out) + len(name) + BESIDES
+        return size_of(found)
+
+    def leave(self, why, path, authority=None):
+        """Takes a file back and tells why, of each of its copies."""
+        out, _, name = path.rpartition("/")
+        numbers = self.copies(path)
+        size = self.remove(out, name)
+        for number in numbers:
+            self.tell(why, "/".join((*self.roots[number].names(out), name)), size, authority)
+
+    def leave_below(self, why, tops):
+        """The same of all files below folders of these paths."""
+        for out in list(self.folders):
+            if any(above in tops for above in around(out)):
+                for name in list(self.folders[out]):
+                    self.leave(why, f"{out}/{name}")
+                del self.folders[out]
+
+
+def around(path):
+    """A path, and those of the folders around it."""
+    while path:
+        yield path
+        path = path.rpartition("/")[0]
+
+
+def size_of(found):
+    """The octets of a file, as they were listed of its first copy."""
+    return (found[0] if isinstance(found, list) else found) >> ROOT_BITS
+
+
+def roots_of(found):
+    """The numbers of the roots below which copies of a file stand."""
+    return [copy & ROOT_MASK for copy in found] if isinstance(found, list) else [found & ROOT_MASK]
 
 
 class Taking:
-    """What OUT has so far: of each folder, by its path, the names of its files."""
+    """What of a listing is handed out to be taken, and what became of it."""
 
-    def __init__(self, tell, entries, folder, progress):
-        self.tell, self.folder, self.progress = tell, os.open(folder, caches.FOLDER), progress
-        self.folders, self.count, self.octets = {}, 0, 0
-        # entries and octets, of hosts and of all
-        self.used = {None: [entries, 0]}
+    def __init__(self, listing, folder, progress):
+        self.listing, self.folder, self.progress = listing, os.open(folder, caches.FOLDER), progress
+        self.count = self.octets = self.bundled = self.newest = 0
+        # the paths of which copies differ and nothing is taken yet
+        self.differing = []
 
-    def has(self, uri):
-        """Whether the object of that URI was taken."""
-        out, _, name = (path_of(uri) or "").rpartition("/")
-        return name in self.folders.get(out, ())
+    def has(self, path):
+        """Whether the object with that path was taken."""
+        return bool(self.listing.copies(path)) if path else False
 
-    def parts(self, names, out, files):
-        """What is to be done with a folder's files: some are taken, and those that are there already compared."""
-        held = self.folders.get(out)
-        if held is None and self.clashes(out):
-            return self.leave(CLASH, names, files)
-        same = [name for name in files if held and name in held]
-        new = [name for name in files if not held or name not in held]
-        new = self.fitting(names, out, new)
-        if new:
-            self.add(out, new)
-        if new or same:
-            yield Part(names, out, new, same)
-        self.progress("files", self.count)
+    def parts(self, wanted=None):
+        """All that is listed, for helpers. Of paths with several copies that one is taken whose digest `wanted` has; where
+        there is no `wanted`, none is taken of copies that differ."""
+        for out, held in self.listing.folders.items():
+            single, several = {}, []
+            for name, found in held.items():
+                if isinstance(found, list):
+                    several.append(name)
+                else:
+                    single.setdefault(found & ROOT_MASK, []).append(name)
+            for number, names in single.items():
+                for at in range(0, len(names), PIECE_FILES):
+                    yield Part(out, [self.listing.roots[number].names(out)], names[at : at + PIECE_FILES], None, None)
+            for name in several:
+                yield self.part(f"{out}/{name}", wanted)
 
-    def leave(self, why, names, files):
-        for name in files:
-            self.tell(why, "/".join((*names, name)))
+    def part(self, path, wanted):
+        """The part of one file with several copies."""
+        out, _, name = path.rpartition("/")
+        folders = [self.listing.place(number, path) for number in self.listing.copies(path)]
+        return Part(out, folders, [name], [range(len(folders))], wanted and [wanted.get(path)])
 
-    def clashes(self, out):
-        """Whether a file was taken where a folder would be needed."""
-        while out not in self.folders:
-            out, slash, name = out.rpartition("/")
-            if name in self.folders.get(out, ()):
-                return True
-            if not slash:
-                break
-        return False
-
-    def fitting(self, names, out, new):
-        """Those of the new files that no folder is in the way of, and that rpki_check has room for."""
-        free = []
-        for name in new:
-            path = f"{out}/{name}"
-            why = CLASH if path in self.folders else caches.TOO_LONG if len(path) > caches.MOST_PATH else None
-            if why:
-                self.tell(why, "/".join((*names, name)))
-            else:
-                free.append(name)
-        room = self.room(out)
-        self.leave(NO_OCTETS if self.is_full(out) else NO_ROOM, names, free[room:])
-        return free[:room]
-
-    def host_of(self, out):
-        return out.split("/", 2)[1]
-
-    def is_full(self, out):
-        """Whether there are enough octets of all, or of the host."""
-        host = self.used.get(self.host_of(out), (0, 0))
-        return self.used[None][1] > MOST_OCTETS or host[1] > MOST_OCTETS // SHARE
-
-    def room(self, out):
-        """How many files more the folder may have."""
-        if self.is_full(out):
-            return 0
-        host = self.used.get(self.host_of(out), (0, 0))
-        left = min(MOST_ENTRIES - self.used[None][0], MOST_ENTRIES // SHARE - host[0])
-        return max(0, left - len(self.missing_folders(out)))
-
-    def missing_folders(self, out):
-        """The paths of the folders that aren't there yet, that one and those around it."""
-        missing = []
-        while "/" in out and out not in self.folders:
-            missing.append(out)
-            out = out.rpartition("/")[0]
-        return missing
-
-    def add(self, out, new):
-        """Adds files, and the folders that they need."""
-        missing = self.missing_folders(out)
-        for path in missing:
-            self.folders[path] = set()
-        self.folders[out].update(new)
-        self.count += len(new)
-        self.use(out, len(missing) + len(new), 0)
-
-    def use(self, out, entries, octets):
-        for key in (None, self.host_of(out)):
-            used = self.used.setdefault(key, [0, 0])
-            used[0] += entries
-            used[1] += octets
+    def again(self, wanted):
+        """What wasn't taken since its copies differ: now the one whose digest is wanted is taken, or the first."""
+        paths, self.differing = self.differing, []
+        return (self.part(path, wanted) for path in paths)
 
     def note(self, parts, taken):
         """Notes what became of parts that were handed out."""
         for part, one in zip(parts, taken):
-            self.folders[part.out].difference_update(one.missing)
-            self.count -= len(one.missing)
+            for name in one.missing:
+                self.listing.remove(part.out, name)
+            self.differing += (f"{part.out}/{name}" for name in one.differing)
+            gone = {*one.missing, *one.differing}
+            names = [name for name in part.files if name not in gone]
+            self.count += len(names)
             self.octets += one.octets
-            files = set(part.files).difference(one.missing)
-            self.use(part.out, 0, one.octets + len(files) * (BESIDES + len(part.out)) + sum(map(len, files)))
-            if files and self.is_full(part.out):
-                self.drop(part, files, one.octets)
+            self.newest = max(self.newest, one.newest)
+            self.bundled += one.octets + len(names) * (BESIDES + len(part.out)) + sum(map(len, names))
+            if names and self.bundled > MOST_OCTETS:
+                self.drop(part, names, one.octets)
+        self.progress("files", self.count)
 
-    def drop(self, part, files, octets):
-        """Takes files back, since there are too many octets now."""
-        for name in files:
+    def drop(self, part, names, octets):
+        """Takes files back, which have grown since they were listed: there are too many octets now."""
+        for name in names:
             os.remove(f"{part.out}/{name}", dir_fd=self.folder)
-            self.tell(NO_OCTETS, "/".join((*part.names, name)))
-        self.folders[part.out].difference_update(files)
-        self.count -= len(files)
+            self.listing.leave(NO_OCTETS, f"{part.out}/{name}")
+        self.count -= len(names)
         self.octets -= octets

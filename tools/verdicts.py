@@ -6,7 +6,8 @@ party keeps on disk (certificates, revocation lists, signed objects), checks eac
 Python's `cryptography`), and writes the objects, the trust anchor locators and a line for each good signature.
 
     verdicts.py CACHE OUT --tals FOLDER [--layout NAME] [--moment YYYYMMDDHHMMSSZ] [--depth N] [--relaxed]
-        [--replace] [--known FOLDER] [--jobs N] [--max-file-size OCTETS] [--summary FILE] [--progress]
+        [--replace] [--known FOLDER] [--jobs N] [--max-file-size OCTETS] [--max-origins-per-object N]
+        [--max-store-size OCTETS] [--summary FILE] [--report FILE] [--progress]
 
 Layouts (by default the one that the folders' names tell):
 
@@ -17,10 +18,14 @@ Layouts (by default the one that the folders' names tell):
   routinator   what `routinator dump` writes: CACHE/{store/rrdp,rrdp}/HOST/HASH/{rsync/,}HOST/..,
                CACHE/{store/rsync,rsync}/HOST/.., CACHE/ta/{rsync,https}/HOST/..
 
-Where two places have an object of one URI, the first place of the layout's line counts; the summary tells how many
-others differed. Only regular files count whose paths are URIs: links, pipes, sockets, devices, what can't be read, files
-over --max-file-size, and what is more than `rpki_check` takes are left out and told, and nothing in CACHE ends the run or
-makes it read elsewhere.
+Where a cache has copies of one URI with other octets, none counts by its place. Of manifests the copy is taken whose certificate
+is signed by the key of a certificate that names that URI, if there is one below a locator, and which stands in the store that
+this certificate names; of other files the copy whose digest the manifest lists that was taken (`choosing` has it all). Where two
+authorities claim one URI with copies of their own, both are told, and the one stands that the run before took (--known).
+
+Only regular files count whose paths are URIs: links, pipes, sockets, devices, what can't be read, files over --max-file-size,
+objects over --max-origins-per-object, and what is more than `rpki_check` takes (`shares`: whoever takes least is served first)
+are left out and told, and nothing in CACHE ends the run or makes it read elsewhere.
 
 A signature is checked with one key at most: that of the certificate whose key's SHA-1 digest is the identifier that was
 signed with, a trust anchor's with its own, an object's content with that of the object's certificate. With --known
@@ -36,10 +41,14 @@ Nothing here is proved. A line that is missing takes announcements away; a line 
 signature speak for the key's holder: `rpki_check` says only what follows from these lines.
 
 Exit status: 0 where OUT was written; 1 where something couldn't be read or written, or the cache has no object; 2 for
-other arguments.
+other arguments; 7 where there is no locator; 8 where memory lacked; 9 where the disk is full; 10 where Python lacks
+`cryptography`.
 """
 
 import argparse
+import base64
+import binascii
+import collections
 import datetime
 import heapq
 import os
@@ -52,18 +61,38 @@ import time
 
 sys.dont_write_bytecode = True
 
-import caches  # noqa: E402
-import summaries  # noqa: E402
-from helpers import IDENTIFIER, KEY, LINE, Counts, Helpers, Rows  # noqa: E402
-from outputs import ENDING, Output, write  # noqa: E402
-from taking import Taking, explicit_parts, pieces_of  # noqa: E402
+import faults  # noqa: E402
 
-MOST_FILE_OCTETS = 32 << 20
+try:
+    import caches  # noqa: E402
+    import relaxed  # noqa: E402
+    import reports  # noqa: E402
+    import signed  # noqa: E402
+    import summaries  # noqa: E402
+    from earlier import Known, known_rows  # noqa: E402
+    from gathering import Gathering  # noqa: E402
+    from helpers import IDENTIFIER, Counts, Helpers  # noqa: E402
+    from outputs import ENDING, Output, write  # noqa: E402
+    from taking import Listing, Taking, path_of  # noqa: E402
+except ImportError as lacking:
+    print(f"verdicts.py: {sys.executable} lacks `cryptography` ({lacking}): install it for this Python, such as by "
+          "`apt install python3-cryptography` or `python3 -m pip install cryptography`", file=sys.stderr)
+    sys.exit(faults.NO_LIBRARY)
+
+# As rpki-client has it.
+MOST_FILE_OCTETS = 4_000_000
+MOST_ORIGINS = 100_000
+MOST_STORE_OCTETS = 512 << 20
 MOST_LOCATOR_OCTETS = 1 << 16
 # A locator's name is a PrintableString without a space.
 LOCATOR_NAME = re.compile(r"[A-Za-z0-9'()+,.:=?-]+\Z")
 URI = re.compile(r"(?i)(rsync|https)://")
 PROGRESS_SECONDS = 2.0
+
+# How large things may be: the octets of a file, the rows of an object, and the octets of what one authority publishes.
+Limits = collections.namedtuple("Limits", "file origins store")
+# A locator: its name, its octets, its URIs in their order, and the octets of its key, or None where it has none.
+Locator = collections.namedtuple("Locator", "name text uris key")
 
 
 class Stopped(BaseException):
@@ -94,7 +123,7 @@ def read_locator(path):
 
 
 def read_tals(folder):
-    """The locators of a folder: of each its name, its octets, and its URIs in their order."""
+    """The locators of a folder."""
     found = []
     for entry in sorted(os.listdir(folder)):
         if not entry.endswith(".tal"):
@@ -104,40 +133,34 @@ def read_tals(folder):
             raise OSError(f"a locator's name has letters, digits and '()+,.:=?- alone: {os.path.join(folder, entry)!a}")
         text = read_locator(os.path.join(folder, entry))
         lines = text.decode("latin-1").replace("\r\n", "\n").split("\n")
-        found.append((name, text, [line for line in lines if URI.match(line)]))
+        found.append(Locator(name, text, [line for line in lines if URI.match(line)], key_of(lines)))
+    if not found:
+        raise faults.Fault(faults.NO_LOCATOR, f"{folder} has no locator (NAME.tal)")
     return found
 
 
-def known_rows(folder, notes):
-    """The lines of an earlier run's verdicts, or None where there are none."""
-    if folder is None:
-        return None
+def key_of(lines):
+    """The octets of a locator's key (RFC 8630 2.2), or None."""
     try:
-        rows = Rows(os.path.join(folder, "verdicts"), LINE)
-    except OSError as why:
-        notes.append(f"no verdicts of an earlier run: {why}")
+        digits = "".join(line.strip() for line in lines if not URI.match(line) and not line.startswith("#"))
+        return base64.b64decode(digits, validate=True)
+    except (binascii.Error, ValueError):
         return None
-    notes.append(f"{rows.count:,} verdicts of an earlier run")
-    return rows
 
 
-def gather(taking, walk, layout, tals, helpers):
-    """Takes all files, place by place, since what an earlier place has counts; the rows of the keys that were found."""
-    keys = set()
-
-    def hand_out(parts):
-        for pieces, (taken, found) in helpers.spread("take", pieces_of(parts)):
-            taking.note(pieces, taken)
-            keys.update(found[at : at + KEY.size] for at in range(0, len(found), KEY.size))
-
-    for place in caches.places(walk.top, layout):
-        for hosts in caches.host_passes(walk.hosts(place)):
-            hand_out(part for host in hosts for names, out, files in walk.below(place, host)
-                     for part in taking.parts(names, out, files))
-    if layout == "rpki-client":
-        for names, out, files in explicit_parts(walk, tals):
-            hand_out(taking.parts(names, out, files))
-    return keys
+def anchor_of(folder, locator):
+    """The first URI of a locator at which a certificate of its key was taken, or None."""
+    for uri in locator.uris:
+        path = path_of(uri)
+        try:
+            with open(os.path.join(folder, path), "rb") as file:
+                octets = file.read()
+            cert = signed.read_cert(octets, 0, len(octets))
+            if cert.bits is not None and signed.encoded_key(cert.bits) == locator.key:
+                return uri
+        except (OSError, TypeError, signed.Malformed):
+            continue
+    return None
 
 
 def write_index(path, keys):
@@ -171,7 +194,7 @@ def write_rest(output, given, tals):
     if given.relaxed:
         write(os.path.join(output.folder, "relaxed"), b"true\n")
     os.mkdir(os.path.join(output.folder, "tals"))
-    for name, text, _ in tals:
+    for name, text, *_ in tals:
         write(os.path.join(output.folder, "tals", name + ".tal"), text)
 
 
@@ -192,53 +215,84 @@ def processor_seconds():
     return round(sum(one.ru_utime + one.ru_stime for one in used), 3)
 
 
-def make(given, output, tals, top):
-    """Writes the folder: the summary, but for the time that was taken."""
-    clock, notes, counts = Clock(), [], Counts()
-    progress = Progress(given.progress or sys.stderr.isatty())
-    layout = given.layout or caches.layout_of(top)
-    known = known_rows(given.known, notes)
-    walk = caches.Walk(top, counts.left_out.add, output.skipped())
-    taking = Taking(counts.left_out.add, len(tals), output.folder, progress.tell)
-    with Helpers(given.jobs, top, output.work, output.folder, given.max_file_size, known, given.relaxed) as helpers:
-        keys = gather(taking, walk, layout, tals, helpers)
-        if not taking.count:
-            raise OSError("the cache has no object")
-        helpers.each("flush")
-        clock.note("read")
-        index = os.path.join(output.work, "index")
-        write_index(index, keys)
-        helpers.each("check", index)
-        clock.note("check")
-        finished = helpers.each("finish")
-    for _, other in finished:
-        counts.merge(other)
-    verdicts = merge_lines(os.path.join(output.folder, "verdicts"), [path for path, _ in finished])
-    write_rest(output, given, tals)
-    clock.note("write")
-    return summary(given, layout, tals, taking, counts, verdicts, clock, notes)
+class Run:
+    """One run: what it finds, as far as it comes."""
 
+    def __init__(self, given):
+        self.given, self.clock, self.notes = given, Clock(), []
+        self.tals, self.anchors, self.contested = [], {}, []
+        self.layout = self.taking = self.counts = None
+        self.verdicts = 0
 
-def summary(given, layout, tals, taking, counts, verdicts, clock, notes):
-    """What was read, found and left out."""
-    signatures = {name: counts.signatures[name] for name in ("found", "known", "computed", "bad", "no_key")}
-    return {
-        "layout": layout,
-        "moment": given.moment,
-        "objects": taking.count,
-        "octets": taking.octets,
-        "locators": len(tals),
-        "missing_anchors": [name for name, _, uris in tals if not any(map(taking.has, uris))],
-        "verdicts": verdicts,
-        "good": dict(sorted(counts.good.items())),
-        "signatures": {**signatures, "good": sum(counts.good.values())},
-        "left_out": counts.left_out.rows(),
-        "not_good": counts.not_good.rows(),
-        "differing": counts.differing,
-        "notes": notes,
-        "jobs": given.jobs,
-        "seconds": clock.seconds,
-    }
+    def all(self):
+        """Makes OUT and puts it in place."""
+        given = self.given
+        self.tals = read_tals(given.tals)
+        top = os.open(given.cache, os.O_RDONLY | os.O_DIRECTORY | os.O_CLOEXEC)
+        with Output(given.out, given.replace) as output:
+            self.make(output, top)
+            self.anchors = {locator.name: anchor_of(output.folder, locator) for locator in self.tals}
+            output.put()
+            self.report = reports.report(self, given.report)
+        told = self.summary()
+        print(summaries.text(told), end="", file=sys.stderr)
+        if given.summary:
+            summaries.write_json(given.summary, told)
+
+    def make(self, output, top):
+        """Writes the folder."""
+        given, progress = self.given, Progress(self.given.progress or sys.stderr.isatty())
+        self.layout = given.layout or caches.layout_of(top)
+        self.counts = Counts(os.path.join(output.work, "left"))
+        tell, limits = self.counts.left_out.add, Limits(given.max_file_size, given.max_origins_per_object, given.max_store_size)
+        rows = known_rows(given.known, self.notes)
+        known = Known(given.known, relaxed.read if given.relaxed else signed.read)
+        walk = caches.Walk(top, tell, limits.file, output.skipped())
+        listing = Listing(tell, len(self.tals))
+        self.taking = Taking(listing, output.folder, progress.tell)
+        with Helpers(given.jobs, top, output.work, output.folder, limits, rows, given.relaxed) as helpers:
+            gathering = Gathering(given, walk, self.layout, self.tals, helpers, self.taking, known)
+            keys = gathering.all()
+            self.contested = gathering.contested
+            if not self.taking.count:
+                raise OSError("the cache has no object")
+            helpers.each("flush")
+            self.clock.note("read")
+            index = os.path.join(output.work, "index")
+            write_index(index, keys)
+            helpers.each("check", index)
+            self.clock.note("check")
+            finished = helpers.each("finish")
+        self.counts.left_out.close()
+        for _, other in finished:
+            self.counts.merge(other)
+        self.verdicts = merge_lines(os.path.join(output.folder, "verdicts"), [path for path, _ in finished])
+        write_rest(output, given, self.tals)
+        self.clock.note("write")
+
+    def summary(self):
+        """What was read, found and left out."""
+        counts = self.counts
+        signatures = {name: counts.signatures[name] for name in ("found", "known", "computed", "bad", "no_key")}
+        return {
+            "layout": self.layout,
+            "moment": self.given.moment,
+            "objects": self.taking.count,
+            "octets": self.taking.octets,
+            "locators": len(self.tals),
+            "missing_anchors": [name for name, uri in self.anchors.items() if uri is None],
+            "verdicts": self.verdicts,
+            "good": dict(sorted(counts.good.items())),
+            "signatures": {**signatures, "good": sum(counts.good.values())},
+            "left_out": counts.left_out.by_reason(),
+            "not_good": counts.not_good.rows(),
+            "differing": counts.differing,
+            "contested": self.contested,
+            "notes": [*self.notes, *map(reports.words, self.contested)],
+            "jobs": self.given.jobs,
+            "seconds": self.clock.seconds,
+            "processor_seconds": processor_seconds(),
+        }
 
 
 def arguments():
@@ -253,8 +307,14 @@ def arguments():
     parser.add_argument("--replace", action="store_true", help="replace what an earlier run wrote to OUT")
     parser.add_argument("--known", metavar="FOLDER", help="what an earlier run wrote, whose verdicts are taken")
     parser.add_argument("--jobs", type=int, default=len(os.sched_getaffinity(0)), help="processes (default: processors)")
-    parser.add_argument("--max-file-size", type=int, default=MOST_FILE_OCTETS, metavar="OCTETS", help="default: 32 MiB")
+    for name, default, what, text in (
+        ("file-size", MOST_FILE_OCTETS, "OCTETS", "of a file (default: 4,000,000)"),
+        ("origins-per-object", MOST_ORIGINS, "N", "prefixes of a ROA, providers of an ASPA (default: 100,000)"),
+        ("store-size", MOST_STORE_OCTETS, "OCTETS", "of all that one authority publishes (default: 512 MiB)"),
+    ):
+        parser.add_argument(f"--max-{name}", type=int, default=default, metavar=what, help=text)
     parser.add_argument("--summary", metavar="FILE", help="write the summary there too, as JSON")
+    parser.add_argument("--report", metavar="FILE", help="write there, as JSON, what was found and left out, and by whom")
     parser.add_argument("--progress", action="store_true", help="tell how far it is, on standard error")
     given = parser.parse_args()
     given.moment = given.moment or datetime.datetime.now(datetime.timezone.utc).strftime("%Y%m%d%H%M%SZ")
@@ -274,24 +334,13 @@ def check(parser, given):
         parser.error("--depth isn't from 1 to 32")
     if not 1 <= given.jobs <= 1024:
         parser.error("--jobs isn't from 1 to 1,024")
-    if given.max_file_size < 1:
-        parser.error("--max-file-size isn't at least 1")
-    for folder in (given.cache, given.tals, os.path.dirname(os.path.abspath(given.summary or "."))):
+    for name in ("max_file_size", "max_origins_per_object", "max_store_size"):
+        if getattr(given, name) < 1:
+            parser.error(f"--{name.replace('_', '-')} isn't at least 1")
+    files = (os.path.dirname(os.path.abspath(file or ".")) for file in (given.summary, given.report))
+    for folder in (given.cache, given.tals, *files):
         if not os.path.isdir(folder):
             parser.error(f"{folder} is no folder")
-
-
-def run(given):
-    """Makes OUT and puts it in place: the summary."""
-    tals = read_tals(given.tals)
-    top = os.open(given.cache, os.O_RDONLY | os.O_DIRECTORY | os.O_CLOEXEC)
-    with Output(given.out, given.replace) as output:
-        told = make(given, output, tals, top)
-        output.put()
-    told["processor_seconds"] = processor_seconds()
-    print(summaries.text(told), end="", file=sys.stderr)
-    if given.summary:
-        summaries.write_json(given.summary, told)
 
 
 def stop(number, _):
@@ -300,19 +349,36 @@ def stop(number, _):
     raise Stopped(number)
 
 
+def run(given):
+    """The exit status of a run, after its report."""
+    one, status = Run(given), faults.GOOD
+    try:
+        one.all()
+        report = one.report
+    except Exception as why:
+        fault = faults.told(why)
+        status = fault.status
+        print(f"verdicts.py: {fault.why}", file=sys.stderr)
+        report = reports.report(one)
+    if given.report:
+        try:
+            summaries.write_json(given.report, report)
+        except OSError as why:
+            print(f"verdicts.py: {why}", file=sys.stderr)
+            status = status or faults.told(why).status
+    return status
+
+
 def main():
     given = arguments()
     for number in ENDING:
         signal.signal(number, stop)
     try:
-        run(given)
-    except OSError as why:
-        print(f"verdicts.py: {why}", file=sys.stderr)
-        return 1
+        return run(given)
     except Stopped as number:
         signal.signal(number.args[0], signal.SIG_DFL)
         os.kill(os.getpid(), number.args[0])
-    return 0
+    return faults.FAULT
 
 
 if __name__ == "__main__":

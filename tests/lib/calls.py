@@ -1,4 +1,4 @@
-"""Reads of the sources the public calls that answer a `Result`, their clauses, and the variants of error types."""
+"""Reads of the sources the public calls that answer a `Result` or an exit status, their clauses, and the variants of error types."""
 
 import dataclasses
 import pathlib
@@ -13,7 +13,8 @@ GROWTHS = ("AllocError", "AllocFailed", "Infallible")
 
 @dataclasses.dataclass
 class Call:
-    """A call: where it stands, its name among the crate's, the error type as it is written, and its clauses."""
+    """A call: where it stands, its name among the crate's, the error type as it is written, or of an exit status those that aren't
+    0, with a bar between them, and its clauses."""
 
     crate: str
     path: pathlib.Path
@@ -104,8 +105,13 @@ def given_by(text, name):
     return [("gives", f"({text[match.end() + 1:end - 1]}) given result")]
 
 
+def statuses_of(clauses):
+    """The exit statuses but 0 that a clause `status` names, in their order."""
+    return "|".join(number for name, text in clauses if name == "status" for number in re.findall(r"result ≡ (\d+)", text) if number != "0")
+
+
 def calls_of(crate, path, text, traits):
-    """The public calls of a file that answer a `Result`: functions and methods that are `pub`, methods of public traits, and
+    """The public calls of a file that answer a `Result` or an exit status: functions and methods that are `pub`, methods of public traits, and
     of traits that none of the libraries declares, where they have a contract."""
     bare = COMMENT.sub(lambda found: " " * len(found[0]), text)
     block = ("", "", None, 0)
@@ -120,9 +126,9 @@ def calls_of(crate, path, text, traits):
             continue
         answer, clauses = head_of(bare, match.end())
         clauses += given_by(bare[start:match.start()], name) if foreign else []
-        if answer.startswith("Result<") and (clauses or not foreign):
-            error = split_list(answer[7:-1])
-            yield Call(crate, path, text.count("\n", 0, match.start()) + 1, owner, name, error[-1], clauses)
+        error = split_list(answer[7:-1])[-1] if answer.startswith("Result<") else statuses_of(clauses)
+        if error and (clauses or not foreign):
+            yield Call(crate, path, text.count("\n", 0, match.start()) + 1, owner, name, error, clauses)
 
 
 @dataclasses.dataclass

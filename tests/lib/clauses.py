@@ -209,9 +209,13 @@ class Fields:
 
 @dataclasses.dataclass(frozen=True)
 class Any:
-    """Something that isn't known, with marks: of the error, of what the call was given, of what it leaves of that."""
+    """Something that isn't known, with marks: of the error, of what the call was given, of what it leaves of that; of what a
+    statement says that there is, which a body may choose."""
 
     marks: frozenset = frozenset()
+
+
+CHOSEN = Any(frozenset({"chosen"}))
 
 
 class Later:
@@ -282,6 +286,8 @@ class Follower:
             return Con(fields[-1])
         if fields:
             return Any(of_call(name, module))
+        if name.isdigit():
+            return Con(name)
         home, original = self.definitions.find(name, module)
         if home and original in home.functions:
             return self.defined(home, original)
@@ -441,7 +447,8 @@ class Follower:
         if kind == "op" and term[1] in SIGNS:
             return SIGNS[term[1]](self, term, names, module)
         if kind == "bind":
-            found = self.says(term[3], {**names, term[2]: Any()}, module)
+            there_is = CHOSEN if term[1] == "×" else Any()
+            found = self.says(term[3], {**names, term[2]: there_is}, module)
             return SAYS if found == FALSE and term[1] == "→" else found
         if kind == "not":
             return opposite(self.says(term[1], names, module))
@@ -481,6 +488,8 @@ class Follower:
         if len(cases) != 1 and "error" not in self.marks(*whole, set()):
             return self.plain(*whole)
         found = {self.says(*case) if not more else self.related(self.value(*case), more, whole) for case in cases}
+        if len(cases) != 1 and "chosen" in self.marks(*whole, set()):
+            return weakest(found)
         return found.pop() if len(found) == 1 else SAYS if found & {SAYS, FALSE} else strongest(found)
 
     def by_fields(self, value, args):
@@ -488,7 +497,7 @@ class Follower:
         _, home, name = value
         params, fields = home.records[name]
         names = dict(zip(params, args[-len(params):] if params else []))
-        names.update((name, Any()) for name, _ in fields)
+        names.update((name, CHOSEN) for name, _ in fields)
         facts = [text for at, (name, text) in enumerate(fields) if not any(re.search(rf"\b{name}\b", later) for _, later in fields[at + 1:])]
         return strongest({self.field(text, names, home) for text in facts})
 
@@ -500,7 +509,7 @@ class Follower:
 
     def plain(self, term, names, module):
         """A statement that nothing unfolds says something of the error, or of what was given, unless of what is left of that."""
-        marks = self.marks(term, names, module, set())
+        marks = self.marks(term, names, module, set()) - {"chosen"}
         return SAYS if "error" in marks or marks == {"given"} else LEFT if marks else BOUND
 
     def equal(self, term, names, module):
@@ -553,6 +562,11 @@ def of_call(name, module):
 
 def strongest(found):
     return next((it for it in (FALSE, SAYS, LEFT, BOUND) if it in found), TRUE)
+
+
+def weakest(found):
+    """What is left where a body may choose the case: the least that one of them says, unless none can be."""
+    return next((it for it in (TRUE, BOUND, LEFT, SAYS) if it in found), FALSE)
 
 
 def opposite(found):

@@ -15,17 +15,6 @@ def some(found):
     return found
 
 
-def lists_of(value):
-    """The revocation lists in [1], any number, and nothing else; they are in DER whatever the object is in."""
-    need(value.constructed and is_tagged(value, 1, CONTEXT))
-    found, octets = [], value.inner()
-    while octets:
-        one = front(octets)
-        found.append(Crl(one))
-        octets = octets[one.end :]
-    return found
-
-
 class MultiObject:
     """A signed object with several signers, in front of octets: its content and that one's type, its certificates, one or more, its
     revocation lists, and its signers, one or more. Whose certificate a signer has isn't looked at."""
@@ -39,7 +28,7 @@ class MultiObject:
         said, wrapped = counted(encapsulated, 2)
         self.kind, self.content = oid(said), octet_string(only(wrapped, 0, CONTEXT))
         self.certs = [Cert(one) for one in some(members(carried, 0, CONTEXT))]
-        self.lists = lists_of(lists[0]) if lists else []
+        self.lists = [Crl(one) for one in members(lists[0], 1, CONTEXT)] if lists else []
         self.signers = [Signer(one, self.kind) for one in some(members(signers, 17))]
 
 

@@ -232,7 +232,7 @@ class Validation:
         return self.anchor(lambda last: is_self_signed(last) and last.key.encoded == key.encoded, EVERYTHING)
 
     def supply_ca(self, holder):
-        return self.anchor(lambda last: not is_self_signed(last) and is_issued(last, holder.cert), holder.held)
+        return self.anchor(lambda last: is_issued(last, holder.cert), holder.held)
 
     def covered(self, at):
         """What an anchored path covers: of each kind what each of its certificates lists or inherits, and what its anchor holds."""

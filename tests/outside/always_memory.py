@@ -4,7 +4,8 @@
     always_memory.py
 
 In a temporary folder stands a copy of the libraries with the program of tests/program over them, in which `run`, `walk`, `judge`, `reach`,
-`naming_chains` and `diagnose` of rpki_validator answer lack of memory and do nothing else. That program is made (`programs.py`), once for
+`naming_chains`, `diagnose`, `cost`, `point` and `point_unheld` of rpki_validator, wherever their bodies stand, answer lack of memory and
+do nothing else. That program is made (`programs.py`), once for
 all of them, and asked some of the questions of the topics that ask these calls (`validator.py`): each has to be answered by lack of
 memory, and so otherwise than is right.
 
@@ -27,21 +28,26 @@ import validator  # noqa: E402
 SECONDS = 900
 REFUSED = "Err(AllocError)"
 # Of each call the file that has it, and its body.
+BUNDLES, POINTS = "rpki_validator/src/bundles.rt", "rpki_steps/src/point/octets.rt"
 BODIES = {
-    "run": ("runs.rt", "Err(RunError::Memory)"),
-    "walk": ("bundles.rt", REFUSED),
-    "judge": ("bundles.rt", REFUSED),
-    "reach": ("bundles.rt", REFUSED),
-    "naming_chains": ("bundles.rt", REFUSED),
-    "diagnose": ("bundles.rt", REFUSED),
+    "run": ("rpki_validator/src/runs.rt", "Err(RunError::Memory)"),
+    "walk": (BUNDLES, REFUSED),
+    "judge": (BUNDLES, REFUSED),
+    "reach": (BUNDLES, REFUSED),
+    "naming_chains": (BUNDLES, REFUSED),
+    "diagnose": (BUNDLES, REFUSED),
+    "cost": (BUNDLES, REFUSED),
+    "point": (POINTS, REFUSED),
+    "point_unheld": (POINTS, REFUSED),
 }
 # How the questions that ask each call begin, how many are asked, and what is to be answered.
 LACKS = "memory allocation failed"
 TOPICS = {"check": (20, "1 [] [out of memory|]"), "witnesses": (4, LACKS), "judge": (8, LACKS), "reach": (8, LACKS), "naming": (8, LACKS)}
-TOPICS["ask\trefusals"] = 6, "2 [] [out of memory|]"
+TOPICS |= {"point": (6, "out of memory"), "unheld": (6, "out of memory")}
+TOPICS |= {f"ask\t{name}": (6, "2 [] [out of memory|]") for name in ("refusals", "cost")}
 
 # Of these topics only what is answered well.
-GOOD = ("check", "ask\trefusals")
+GOOD = ("check", "ask\trefusals", "ask\tcost")
 
 
 def replaced(text, call, body):
@@ -56,7 +62,7 @@ def lay(folder):
     """The copy, with these bodies; the program's folder."""
     crate = programs.lay(pathlib.Path(folder))
     for call, (file, body) in BODIES.items():
-        path = pathlib.Path(folder) / "crates" / "rpki_validator" / "src" / file
+        path = pathlib.Path(folder) / "crates" / file
         path.write_text(replaced(path.read_text(), call, body))
     return crate
 

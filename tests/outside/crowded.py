@@ -23,6 +23,7 @@ sys.dont_write_bytecode = True
 HERE = os.path.dirname(os.path.abspath(__file__))
 sys.path[:0] = [os.path.join(HERE, os.pardir, "lib"), os.path.join(HERE, os.pardir, os.pardir, "tools")]
 
+import cutting  # noqa: E402
 import quarantine  # noqa: E402
 import rpki_model  # noqa: E402
 from rpki_lattices import FIRST_AS, counted, crowded, rows_below, siblings  # noqa: E402
@@ -63,7 +64,7 @@ class Tests:
         """Whether the bundle without these objects is the one that is made without them."""
         with open(self.path, "wb") as file:
             file.write(world.bundle())
-        quarantine.write_without(self.path, self.made, [uri.decode() for uri in uris])
+        cutting.write_without(self.path, self.made, [uri.decode() for uri in uris])
         with open(self.made, "rb") as file:
             made = file.read()
         os.remove(self.made)

@@ -10,7 +10,7 @@ authority of a row certifies all of the next row, so that many chains end alike:
 each certificate is asked of small ones, and of 2^32 with a limit. 70 URIs of 70
 authorities are asked what they reach, together, and which chains name them; and once 69 that nobody names, with one that is
 named. Bundles have some octets in large files that manifests list: 17 MB, with --huge 64 and 200 MB, too, and with --small
-2 MB. All answers are stated here, but of small lattices in which a key is certified again below: these are those of the second
+2 MB. tools/lines_to.py and tools/slurm.py are measured over many lines: an origin more takes 100 octets of memory at most. All answers are stated here, but of small lattices in which a key is certified again below: these are those of the second
 reading (`rpki_model`).
 
 Prints a line for each answer that isn't right, and `N passed, M failed`; exits with 1 where one failed.
@@ -21,6 +21,7 @@ import hashlib
 import os
 import subprocess
 import sys
+import tempfile
 import time
 
 sys.dont_write_bytecode = True
@@ -34,6 +35,23 @@ from rpki_repositories import HOST, World, roa  # noqa: E402
 SECONDS = 120 * SLOWER
 MEGABYTE = 1_000_000
 MANY = 70
+TOOLS = os.path.join(os.path.dirname(os.path.abspath(__file__)), os.pardir, os.pardir, "tools")
+# So many origins there are before and after, and so many octets of memory one more may take.
+ORIGINS, MOST_OCTETS = (20_000, 200_000), 100
+# Runs a program and prints its memory in KiB. (The system counts what its parent had before, so that has to be small.)
+MEASURED = """
+import os, subprocess, sys
+run = subprocess.Popen(sys.argv[1:], stdout=subprocess.DEVNULL, stderr=subprocess.DEVNULL)
+_, status, used = os.wait4(run.pid, 0)
+print(used.ru_maxrss)
+sys.exit(status != 0)
+"""
+# Exceptions that match some and add one.
+RULES = """{
+  "slurmVersion": 1,
+  "validationOutputFilters": {"prefixFilters": [{"prefix": "0.0.0.0/16"}], "bgpsecFilters": []},
+  "locallyAddedAssertions": {"prefixAssertions": [{"prefix": "::/0", "asn": 0}], "bgpsecAssertions": []}
+}"""
 
 
 class Tests:
@@ -240,6 +258,40 @@ def bundles(tests, check, sizes):
         tests.gives(f"{megabytes} MB, an octet changed", [check, "check"], changed, 0, text_of(lines))
 
 
+# Memory of what writes for routers.
+
+
+def written_lines(path, count):
+    """So many origins in their order, and a customer for each hundred of them."""
+    with open(path, "w") as file:
+        for at in range(count):
+            file.write(f"roa AS{FIRST_AS} {at >> 16}.{at >> 8 & 255}.{at & 255}.0/24 32\n")
+        for at in range(count // 100):
+            file.write(f"aspa AS{at} AS{FIRST_AS} AS{FIRST_AS + 1}\n")
+
+
+def most_memory(words, path):
+    """The most octets of memory that a program has over a file."""
+    with open(path, "rb") as lines:
+        done = subprocess.run([sys.executable, "-c", MEASURED, sys.executable, *words], stdin=lines, stdout=subprocess.PIPE)
+    return int(done.stdout) * 1024 if done.returncode == 0 else None
+
+
+def memory(tests, counts):
+    """What writes JSON, OpenBGPD's part and CSV, and exceptions: 100 octets at most for an origin more."""
+    commands = [["lines_to.py", form, "--moment", "20250101000000Z"] for form in ("json", "openbgpd", "csv")]
+    with tempfile.TemporaryDirectory() as room:
+        rules, paths = os.path.join(room, "rules"), [os.path.join(room, str(count)) for count in counts]
+        with open(rules, "w") as file:
+            file.write(RULES)
+        for path, count in zip(paths, counts):
+            written_lines(path, count)
+        for name, *words in (*commands, ["slurm.py", rules]):
+            few, many = (most_memory([os.path.join(TOOLS, name), *words], path) for path in paths)
+            more = None if None in (few, many) else (many - few) / (counts[1] - counts[0])
+            tests.same(f"{name} {words[0]}: {more} octets an origin", more is not None and more <= MOST_OCTETS, True)
+
+
 def main():
     parser = argparse.ArgumentParser(description=__doc__, formatter_class=argparse.RawDescriptionHelpFormatter)
     parser.add_argument("check")
@@ -255,6 +307,7 @@ def main():
     costs(tests, ask)
     many(tests, ask, questions)
     bundles(tests, check, given.sizes)
+    memory(tests, ORIGINS)
     print(f"{tests.passed} passed, {tests.failed} failed")
     sys.exit(1 if tests.failed else 0)
 

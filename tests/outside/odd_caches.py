@@ -125,7 +125,7 @@ def put_socket(path):
 
 def put_large(path):
     """A file of one octet more than the limit, and one of a terabyte, of holes alone."""
-    for name, size in ((path, (32 << 20) + 1), (path + "2", 1 << 40)):
+    for name, size in ((path, 4_000_001), (path + "2", 1 << 40)):
         with open(name, "wb") as file:
             file.truncate(size)
 
@@ -203,7 +203,7 @@ def odd(room):
     room.cache_odd = room.path("odd")
     shutil.copytree(room.cache, room.cache_odd)
     base = room.told(room.cache)
-    wanted = tree(room.out)
+    wanted = room.wanted = tree(room.out)
     same("without oddities", (base["left_out"], base["verdicts"]), ([], SIGNATURES))
     folder = os.path.join(room.cache_odd, POINT, "a0")
     put_pipe(os.path.join(folder, "pipe.roa"))
@@ -265,6 +265,8 @@ def places(room):
     repository.write(os.path.join(upper, "repository", "a0", "o0.roa"), b"other octets")
     summary = room.told(cache)
     same("hosts in other case", (summary["objects"], summary["differing"]), (len(room.made.objects) + 1, 1))
+    os.remove(os.path.join(room.out, POINT, "more.roa"))
+    same("hosts in other case: the folder", tree(room.out) == room.wanted, True)
     shutil.rmtree(cache)
     clashes(room, cache)
 
@@ -279,7 +281,8 @@ def clashes(room, cache):
     shutil.rmtree(f"{top}/a1")
     repository.write(f"{top}/a1", b"a file")
     told = reasons(room.told(cache))
-    same("a file and a folder of one path", told, {"a file or a folder of an earlier place has its path": 2})
+    same("a file and a folder of one path", told, {"a folder has its path, or a file has that of its folder": 2})
+    same("a file and a folder of one path: the folder", tree(room.out) == room.wanted, True)
     # (what can't be taken of an earlier place doesn't hide what a later one has)
     first = f"{cache}/rrdp/1/{repository.HOST}/repository/a1/o1.roa"
     os.remove(first)
@@ -294,8 +297,8 @@ def clashes(room, cache):
 def limits(room, program):
     """More than rpki_check takes: what is over is left out and told, and what is left can be bundled."""
     for code, why in (
-        ("import taking\ntaking.MOST_ENTRIES = 24", "more than rpki_check takes: entries"),
-        ("import taking\ntaking.MOST_OCTETS = 40000", "more than rpki_check takes: octets"),
+        ("import taking\ntaking.MOST_ENTRIES = 23", "more than rpki_check takes: it is beyond its authority's share"),
+        ("import taking\ntaking.MOST_OCTETS = 25000", "more than rpki_check takes: it is beyond its authority's share"),
         ("import caches\ncaches.MOST_SEEN = 10", "beyond 1,000,000 entries of a host"),
     ):
         summary = room.told(room.cache, code=code)

@@ -4,7 +4,7 @@
     routers.py [PROGRAM [ASKER]]        (crates/rpki_check/out/rpki_check and crates/rpki_ask/out/rpki_ask)
 
 Stored lines become JSON that the real StayRTR serves with its defaults (but on loopback) to rtrdump and rtrclient, a part of
-a configuration that `bgpd -n` takes, and CSV. With PROGRAM, a repository with RSA signatures that is valid now is validated by
+a configuration that `bgpd -n` takes, and CSV; tools/slurm.py is compared with StayRTR over one file of exceptions. With PROGRAM, a repository with RSA signatures that is valid now is validated by
 validate.py, rpki-client and FORT, and compare.py compares them; with ASKER it gives reasons. What isn't installed (Debian:
 stayrtr, rtr-tools, openbgpd, rpki-client, fort-validator, systemd) is skipped, and so told. Servers listen on 127.0.0.1 and
 end by themselves. Exits with 1 at the first answer that differs.
@@ -199,6 +199,39 @@ def expired(room):
             same("StayRTR, expired", (origins, both), ([], [[], []]))
             return
     sys.exit("StayRTR, in time: this machine is too busy to ask")
+
+
+# Exceptions by RFC 8416, version 2 with the names that StayRTR knows for customers.
+EXCEPTIONS = {
+    "slurmVersion": 2,
+    "validationOutputFilters": {
+        "prefixFilters": [{"prefix": "192.0.2.0/24", "asn": 64496}, {"prefix": "2001:db8::/33"}, {"asn": 4294967295}],
+        "bgpsecFilters": [],
+        "aspaFilters": [{"customer_asid": 4294967295}],
+    },
+    "locallyAddedAssertions": {
+        "prefixAssertions": [{"prefix": "203.0.113.0/24", "asn": 64511, "maxPrefixLength": 25}, {"prefix": "2001:db8:1::/48", "asn": 0}],
+        "bgpsecAssertions": [],
+        "aspaAssertions": [{"customer_asid": 64511, "provider_set": [1, 2]}],
+    },
+}
+
+
+def excepted(room):
+    """tools/slurm.py makes of lines what StayRTR itself makes of a file with the same exceptions."""
+    if not has("stayrtr", "rtrdump"):
+        return
+    lines, rules = stored()["edges"], write(os.path.join(room, "rules"), json.dumps(EXCEPTIONS))
+    ours = tool("slurm.py", rules, input=lines)
+    same("exceptions, told", ours.stderr.splitlines()[0], "exceptions (SLURM version 2): 5 lines filtered, 3 asserted")
+    told = []
+    for name, text, words in (("ours", ours.stdout, ()), ("theirs", lines, ("-slurm", rules))):
+        made = tool("lines_to.py", "json", "--moment", moment(), input=text).stdout
+        with StayRTR(write(os.path.join(room, f"excepted-{name}.json"), made), *words) as server:
+            origins, (customers, _) = server.dumped()
+            # (for IPv6 StayRTR 0.5.1 adds no customer of its own)
+            told.append((without_default(sorted(origins)), customers))
+    same("exceptions, StayRTR", told[0] == told[1], True)
 
 
 def configured(room):
@@ -419,6 +452,7 @@ def main():
         documents()
         tables()
         served(room)
+        excepted(room)
         expired(room)
         configured(room)
         compared(room)

@@ -37,13 +37,15 @@ SECONDS = 300
 OLD = "what was there before\n"
 # So long a stand-in that hangs is waited for; all others have to start and end meanwhile.
 TIME_LIMIT = str(5 * SLOWER)
-LINES = "roa AS64496 192.0.2.0/24 24\naspa AS64496 AS64497\nrefused example anchor\nrefused rsync://rpki.example/x object\n"
+LINES = "roa AS64496 192.0.2.0/24 24\naspa AS64496 AS64497\nrefused rsync://rpki.example/p point\n"
+LINES += "refused rsync://rpki.example/x object\n"
 # Of these refusals the reasons: the object's on two chains.
 OBJECT = '"name":"rsync://rpki.example/x","cause":"object","reason":"object-unreadable","locator":"example"'
-REASONS = '{"refused":[{"name":"example","cause":"anchor","reason":"anchor-expired","locator":"example","chain":[]},'
+REASONS = '{"refused":[{"name":"rsync://rpki.example/p","cause":"point","reason":"manifest-next-update","locator":"example","chain":[]},'
 REASONS += f'{{{OBJECT},"chain":["rsync://rpki.example/a"]}},{{{OBJECT},"chain":["rsync://rpki.example/b"]}}]}}\n'
 # What stands in the place of both programs: the word in FAKE is a step and what it does there. With BUNDLE, a file, that is the
-# bundle; then `check` hangs, or lacks memory, while an object stands at one of the URIs in AT, and `cost` prints what COST has.
+# bundle; then `check` hangs, or lacks memory, while an object stands at one of the URIs in AT, and `cost` prints what COST has. With
+# ECHO `check` prints its bundle; with BY, a table, the lines of each locator's name that its bundle has.
 STAND_IN = f"""#!{sys.executable}
 import os, sys, time
 step, _, deed = os.environ.get("FAKE", "").partition(" ")
@@ -54,8 +56,14 @@ told = {{"bundle": "bundle\\n", "check": os.environ["LINES"], "cost": os.environ
 text = open(bundle, "rb").read() if bundle and asked == "bundle" else told[asked].encode()
 if bundle and asked == "check":
     octets = sys.stdin.buffer.read()
-    is_there = any(bytes((22, len(uri))) + uri.encode() in octets for uri in os.environ["AT"].split())
-    step, deed = is_there and "check", deed if step == "check" else "hangs 600"
+    if "ECHO" in os.environ:
+        text = octets
+    elif "BY" in os.environ:
+        names = eval(os.environ["BY"])
+        text = "".join(names[name] for name in names if bytes((19, len(name))) + name.encode() in octets).encode()
+    else:
+        is_there = any(bytes((22, len(uri))) + uri.encode() in octets for uri in os.environ["AT"].split())
+        step, deed = is_there and "check", deed if step == "check" else "hangs 600"
 if asked == step:
     if deed == "lacks":
         sys.stderr.write("out of memory\\n")
@@ -63,13 +71,20 @@ if asked == step:
     if deed == "fails":
         sys.stdout.buffer.write(text[:20])
         sys.exit(2 if asked == "cost" else 1)
+    if deed == "eats":
+        taken = bytearray(b"1") * (300 << 20)
+        time.sleep(600)
     if deed == "dies":
         os.kill(os.getpid(), 9)
     if deed.startswith("hangs") and sys.argv[2:] != ["10000"]:
         open(os.environ["READY"], "w").close()
         time.sleep(float(deed.split(" ")[1]))
-sys.stdout.buffer.write(text)
-sys.stdout.flush()
+try:
+    while text:
+        text = text[os.write(1, text):]
+except OSError:
+    os.write(2, b"write fault\\n")
+    os._exit(1)
 sys.exit(asked == "cost")
 """
 # Kills the run at the N-th call of a function of os, before or after what it does.
@@ -78,9 +93,11 @@ import os, signal, sys
 sys.path.insert(0, sys.argv[1])
 sys.dont_write_bytecode = True
 name, count, after = sys.argv[2], int(sys.argv[3]), sys.argv[4] == "after"
-real = getattr(os, name)
+real, process = getattr(os, name), os.getpid()
 def call(*words, **how):
     global count
+    if os.getpid() != process:
+        return real(*words, **how)
     count -= 1
     if count == 0 and not after:
         os.kill(os.getpid(), signal.SIGKILL)
@@ -134,8 +151,9 @@ class Room:
 
     def words(self, *others, cache=None):
         cache = cache or self.cache
+        out = [] if "--out" in others else ["--out", self.out]
         programs = ["--checker", self.fake, "--asker", self.fake]
-        return [cache, "--tals", os.path.join(self.cache, "tals"), "--out", self.out, *programs, "--jobs", "1", *others]
+        return [cache, "--tals", os.path.join(self.cache, "tals"), *out, *programs, "--jobs", "1", *others]
 
     def environment(self, fake, lines):
         return {**os.environ, "FAKE": fake, "LINES": lines, "READY": self.ready}
@@ -157,7 +175,8 @@ class Room:
 
     def left(self):
         """What stands beside the file."""
-        return sorted(set(os.listdir(self.path("out"))) - {"routes.json", "kept"})
+        names = set(os.listdir(self.path("out"))) - {"routes.json", "routes.json.status.json", "kept"}
+        return sorted(name for name in names if not name.startswith("kept.status-"))
 
     def is_old(self, what):
         same(f"{what}: the old file", (read(self.out), self.left()), (OLD, []))
@@ -175,7 +194,8 @@ def statuses(room):
     os.mkdir(empty)
     same("an empty cache", room.run(cache=empty).returncode, 6)
     room.is_old("an empty cache")
-    cases = (("bundle fails", 4), ("bundle dies", 4), ("check fails", 5), ("check dies", 5))
+    # (what dies by the signal that the kernel ends programs with lacked memory)
+    cases = (("bundle fails", 4), ("bundle dies", 8), ("check fails", 5), ("check dies", 8))
     for fake, status in cases:
         done = room.run(fake=fake)
         same(fake, (done.returncode, "Traceback" in done.stderr), (status, False))
@@ -199,10 +219,10 @@ def told(room):
     """The summary and the file's form."""
     room.reset()
     done = room.run("--moment", "20250101000000Z")
-    for text in ("1 origins, 1 customers", "refused: anchor 1, object 1", "refused example anchor", "check", "is new"):
+    for text in ("1 origins, 1 customers", "refused: object 1, point 1", "check", "is new"):
         same(f"told: {text}", text in done.stderr, True)
     same("nothing on standard output", (done.returncode, done.stdout), (0, ""))
-    same("told: reasons", "reasons: anchor-expired 1, object-unreadable 1\n" in done.stderr, True)
+    same("told: reasons", "reasons: manifest-next-update 1, object-unreadable 1\n" in done.stderr, True)
     same("build time", json.loads(read(room.out))["metadata"]["buildtime"], "2025-01-01T00:00:00Z")
     done = room.run("--form", "csv")
     wanted = "ASN,Prefix,Max prefix length\nAS64496,192.0.2.0/24,24\n"
@@ -222,7 +242,7 @@ def reasons(room):
         ("none that are known", ("--asker", none), {}, f"{none} is no program"),
         ("an asker that doesn't start", ("--asker", empty), {}, f"{empty} doesn't start: Exec format error"),
         ("a failure", (), {"fake": "refusals fails"}, "rpki_ask refusals ended with status 1"),
-        ("a death", (), {"fake": "refusals dies"}, "rpki_ask refusals was ended by signal 9"),
+        ("a death", (), {"fake": "refusals dies"}, "rpki_ask refusals was ended by signal 9, as it is where memory is short"),
         ("no end", ("--time-limit", TIME_LIMIT), {"fake": "refusals hangs 600"}, f"rpki_ask refusals hadn't ended after {TIME_LIMIT} seconds"),
         ("no JSON", (), {"REASONS": "refused\n"}, others),
         ("other JSON", (), {"REASONS": "[]\n"}, others),
@@ -233,7 +253,7 @@ def reasons(room):
         done = room.run("--keep", kept, *words, **how)
         same(f"reasons, {what}", (done.returncode, read(room.out) == OLD, room.left()), (0, False, []))
         told = json.loads(read(os.path.join(kept, "summary.json")))
-        counted = None if wanted else {"anchor-expired": 1, "object-unreadable": 1}
+        counted = None if wanted else {"manifest-next-update": 1, "object-unreadable": 1}
         same(f"reasons, {what}: kept", (told["reasons"], told["reasons_unknown"]), (counted, wanted))
         same(f"reasons, {what}: told", f"reasons: not known: {wanted}\n" in done.stderr, bool(wanted))
 

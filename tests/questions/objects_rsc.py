@@ -406,13 +406,17 @@ def nest(count):
     return octets
 
 
+# The worked case by hand: one file, and a list of none.
+WORKED = bytes.fromhex("3049300da00b3009a0073005020300fbf0300b0609608648016503040201302b30291605612e7478740420") + HASH
+NO_FILES = bytes.fromhex("301e300da00b3009a0073005020300fbf0300b06096086480165030402013000")
+WORKED_CASE = ((WORKED, f"[AS64496] - - 1 x612e747874 x{HASH.hex()}"), (NO_FILES, "refused"))
+
+
 def contents(q):
     """The worked case, good contents, those with one change, all fronts of one, and each octet changed of one."""
-    worked = bytes.fromhex("3049300da00b3009a0073005020300fbf0300b0609608648016503040201302b30291605612e7478740420") + HASH
-    none = bytes.fromhex("301e300da00b3009a0073005020300fbf0300b06096086480165030402013000")
-    q.ask(f"[AS64496] - - 1 x612e747874 x{HASH.hex()}", "content", worked.hex())
-    q.ask("refused", "content", none.hex())
-    assert checklist() == worked and checklist(entries=seq()) == none
+    for content, answer in WORKED_CASE:
+        q.ask(answer, "content", content.hex())
+    assert checklist() == WORKED and checklist(entries=seq()) == NO_FILES
     good, bad = list(good_contents()), [*bad_contents(), *odd_contents()]
     for content in good:
         assert answer_of(content) != "refused", content.hex()
@@ -573,7 +577,10 @@ class Signed:
                 self.one("unreadable asked 0", how, content=content)
 
     def read(self):
-        """What is read of objects: of good ones, of each octet changed where the digest doesn't tell, and of their fronts."""
+        """What is read of objects: the worked case, good ones, each octet changed where the digest doesn't tell, and their fronts."""
+        for content, answer in WORKED_CASE:
+            self.q.ask(answer, "object", "strict", Made(place=b"", content=content).octets().hex())
+            self.q.ask(answer, "object", "relaxed", Made(place=b"", content=content, opened=True).octets().hex())
         octets = Made(place=b"").octets()
         self.q.ask(answer_of(CONTENT), "object", "strict", octets.hex())
         self.q.ask(answer_of(CONTENT), "object", "relaxed", octets.hex())

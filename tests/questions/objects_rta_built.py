@@ -97,8 +97,8 @@ def signed_by(key, content, moment):
 
 
 class Asked:
-    def __init__(self, q):
-        self.q = q
+    def __init__(self, q, lent=()):
+        self.q, self.lent = q, lent
 
     def again(self, octets, how="strict"):
         """What is written of a document: of one that was read in BER nothing, but its content, and signers whose attributes are DER."""
@@ -131,7 +131,7 @@ class Asked:
             text = content_of(keys, stated_of(claims), digest)
             said = read.words_of(read.said(Said(text)))
             answer = f"{len(keys)} {said} x{text.hex()} {said}"
-        self.q.ask(answer, "built", *words)
+        self.q.ask(answer, "built", *self.lent, *words)
 
     def words(self, keys, claims, digest=DIGEST):
         return digest.hex(), ",".join(key.hex() for key in keys), *(",".join(claims.get(kind, ())) for kind in ("as", "ipv4", "ipv6"))
@@ -148,7 +148,7 @@ class Asked:
             assert not is_read or Parts(text, True).written() == text
             answer = " ".join((*map(str, counts), "x" + text.hex(), told))
         named = ",".join(f"{key}@{moment.decode()}" for key, moment in signers)
-        self.q.ask(answer, "signed", ",".join(one.hex() for one in certs), ",".join(one.hex() for one in lists), named, *words)
+        self.q.ask(answer, "signed", *self.lent, ",".join(one.hex() for one in certs), ",".join(one.hex() for one in lists), named, *words)
 
 
 class Unsigned:
@@ -279,7 +279,9 @@ def of_signers(asked):
 def building(q):
     """Asks all."""
     asked = Asked(q)
-    of_builders(asked)
-    of_signed(asked)
+    # by calls that take a part, and by calls that lend one
+    for one in (asked, Asked(q, lent=("lent",))):
+        of_builders(one)
+        of_signed(one)
     of_written(asked)
     of_signers(asked)

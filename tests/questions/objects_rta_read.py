@@ -12,7 +12,7 @@ import rpki_repositories as world
 from objects_rsc import TEXTS, V4, V6, blocks, family, ip_part, nest, numbers
 from rpki_attestations import Attestation, MultiObject, Said
 from rpki_readers import Refused, front
-from rpki_relaxed import indefinite, long, nested, segments, spelled, spelled_by_chance
+from rpki_relaxed import indefinite, long, nested, segments, shorter, spelled, spelled_by_chance
 from rpki_repositories import NULL, SHA256, bits, integer, oid, seq, tlv
 
 ATTESTATION = "1.2.840.113549.1.9.16.1.36"
@@ -611,21 +611,25 @@ def tags(octets):
 
 
 def in_ber(octets):
-    """Spelled so that it is BER alone, and read where it is relaxed; and with lists that aren't DER, which aren't."""
+    """Spelled so that it is BER alone, and read where it is relaxed: lists too, as all else that is carried."""
     members = dict(places(front(octets)))
     kept = {(*CRLS, at) for at in range(9)}
     for whole in (indefinite, long(2), long(4)):
         yield True, spelled(octets, {}, whole, kept)
-        yield False, spelled(octets, {}, whole)
+        yield True, spelled(octets, {}, whole)
     for place in members:
         if place[:-1] != CRLS and members[place].constructed:
             yield True, spelled(octets, {place: indefinite})
             yield True, spelled(octets, {place: long(3)})
         if place[:-1] == CRLS:
             for way in (indefinite, long(3)):
-                yield False, spelled(octets, {place: way})
-                yield False, spelled(octets, {(*place, 0): way})
-                yield False, spelled(octets, {place: way}, indefinite)
+                yield True, spelled(octets, {place: way})
+                yield True, spelled(octets, {(*place, 0): way})
+                yield True, spelled(octets, {place: way}, indefinite)
+            # the bits of a signature in segments, and a list whose end is cut off
+            yield False, spelled(octets, {(*place, 2): segments(1, 9)})
+            yield False, spelled(octets, {place: shorter(indefinite)})
+            yield False, spelled(octets, {place: shorter(indefinite)}, indefinite)
     for place in (STRING, *((*SIGNERS, at, field) for at in (0, 1) for field in (1, 5))):
         for way in (segments(), segments(7), segments(0, 3), segments(1, around=indefinite), nested(3), nested(100, indefinite)):
             yield True, spelled(octets, {place: way})
@@ -728,7 +732,7 @@ class Asked:
         other = oid("1.2.840.113549.1.9.16.1.37")
         kinds = {"kind": other, "type": attribute("3", other)}
         good = [GOOD, LARGE, made(**kinds), made(b"", **kinds), made(b"\x30\x80\0\0", **kinds), made(NULL + GOOD, **kinds), made(CERTS[FIRST])]
-        in_ber = [spelled(LARGE, {}, indefinite, {(*CRLS, 0), (*CRLS, 1)}), spelled(GOOD, {STRING: segments(5)})]
+        in_ber = [spelled(LARGE, {}, indefinite), spelled(LARGE, {(*CRLS, 1): indefinite}), spelled(GOOD, {STRING: segments(5)})]
         bad = [b"", GOOD[:-1], CERTS[FIRST], made(kind=other), made(certs=b""), made(signers=b""), made(lists=NULL), nest(10_000)]
         for octets in (*good, *in_ber, *bad):
             for how in ("strict", "relaxed"):

@@ -62,7 +62,7 @@ def of_steps():
     yield TREE, {}, [tal(CA)], "no no"
     yield TREE, {}, [tal(SECOND_ANCHOR), tal(ANCHOR)], "no yes yes"
     yield TREE, {}, [tal(ANCHOR), tal(ANCHOR)], "yes no yes"
-    # a path that ends by itself is no authority's, whoever is supplied
+    # an anchor's certificate says of no place where an issuer stands, so that no authority is one
     yield TREE, {}, [ca(TOP)], "no no"
     yield TREE, {}, [ca(TOP, NEXT), tal(ANCHOR), ca(TOP)], "no yes no yes"
     yield APART, {}, [tal(ANCHOR)], "yes no"
@@ -86,7 +86,14 @@ def of_steps():
     yield SHORT, {}, [ca(TOP, certificate(**authority(OTHER_CA, ANCHOR, WIDE)))], "no no"
     yield SHORT, {"certs": {"other": {"signed_by": SOMEBODY}}}, [ca(TOP, NEXT)], "no no"
     yield ITSELF, {}, [tal(ONE)], "yes yes"
-    yield ITSELF, {}, [ca(certificate(**anchor(ONE, WIDE)))], "no no"
+    # one that is signed by itself may be an authority's with its key, where it says at which place an issuer stands
+    itself = ca(certificate(**anchor(ONE, WIDE)))
+    yield ITSELF, {}, [itself], "yes yes"
+    yield ITSELF, {}, [itself, tal(ONE)], "yes no yes"
+    yield ITSELF, {}, [tal(ONE), itself], "yes no yes"
+    yield ITSELF, {}, [ca(certificate(**anchor(ONE, {"as": [64000]})))], "yes no"
+    yield ITSELF, {}, [ca(TOP)], "no no"
+    yield ITSELF, {"certs": {"one": {"aia": b""}}}, [itself], "no no"
     for size in (2, 3):
         first = certificate(**anchor(20, WIDE))
         yield ring(size), {}, [ca(first)], "yes yes"
@@ -357,12 +364,15 @@ class Asked:
     def spellings(self):
         """In BER; names that are right in BER alone; values in each other, and lengths past the end."""
         octets = TREE.made()
-        # what is signed stays as it is, and so do lists, which are in DER
+        # what is signed stays as it is
         signed = {(1, 0, 5, at, 3, part) for at in range(2) for part in range(2)}
-        kept = {(1, 0, 3, at, 0) for at in range(5)} | {(1, 0, 4, at) for at in range(3)} | signed
+        kept = {(1, 0, 3, at, 0) for at in range(5)} | {(1, 0, 4, at, 0) for at in range(3)} | signed
         in_ber = spelled(octets, {}, indefinite, kept)
         assert self.one(in_ber, TREE.steps)[1] is None
         assert self.one(in_ber, TREE.steps, "relaxed")[0] == "yes yes"
+        # but for what is signed of a list, of which the signature isn't good any more
+        other = spelled(octets, {}, indefinite, kept - {(1, 0, 4, 1, 0)})
+        assert self.one(other, TREE.steps, "relaxed")[1].faults == ["revoked"]
         assert self.one(octets, TREE.steps, "relaxed")[0] == "yes yes"
         utf8 = seq(tlv(0x31, seq(oid("2.5.4.3"), tlv(0x0C, b"a"))))
         for name in ("one", "ca", "anchor"):

@@ -83,12 +83,12 @@ def texts(q):
 
 
 def locators(q):
-    """Locators whose text a reader gives, which fails, or gives none in the end."""
+    """Locators whose text a reader gives, which fails, or gives none in the end; and how many of its calls failed."""
     (_, text), *_ = read(rpki_walks.single()[0].bundle())[0]
     uris = len(text.split(b"\n\n")[0].splitlines())
     for most, wanted in ((MANY, 2), ("1", len(text) + 1)):
         for calls in (0, 1, wanted - 1, wanted):
-            said = str(uris) if calls == wanted else "the text can't be read to its end"
+            said = f"{uris} 0" if calls == wanted else "the text can't be read to its end 1"
             q.ask(said, "locator", text.hex(), most, str(calls))
 
 

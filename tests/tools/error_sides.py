@@ -3,12 +3,15 @@
 
     error_sides.py [--list] [--prune] [--follow WORD]
 
-Calls are those of the libraries that answer a `Result` and that other crates can name, and errors are told apart by the variants that their type's declaration
-has; where a variant holds an error type of these libraries, by that type's. A clause counts where it still says something once
-such an error stands in place of `result` and the definitions that it cites are followed (`tests/lib/clauses.py`). So what holds
-in any case doesn't count, and neither does what tells of an argument alone what is left of it: that a content is failed, or
-that a builder stays as it was. Where a definition can't be followed to its end, the clause counts. Calls whose only error is a
-refused growth are left out.
+Calls are those of the libraries that answer a `Result`, or an exit status by a clause `status`, and that other crates can name. Errors
+are the statuses but 0, or are told apart by the variants that their type's declaration has; where a variant holds an error type of these
+libraries, by that type's. A clause counts where it still says something once such an error stands in place of `result` and the
+definitions that it cites are followed (`tests/lib/clauses.py`). So what holds
+in any case doesn't count, and neither does what tells of an argument alone what is left of it: that a content is failed, that a
+builder stays as it was, or that nothing was written. Where a clause says that there is something, as what was read of a folder, a body
+may choose it, so the case that says least counts. Where a definition can't be followed to its end, the clause counts.
+
+Of a call whose only error is a refused growth the error is called `growth`: no clause can say that a growth was refused.
 
 Each row that is left has its reason in `error_sides.tsv`. Exits with 1 where a row has no reason, or a reason no row. With --list
 all rows are printed with their reasons; with --prune reasons without a row are taken out; with --follow the calls with that word
@@ -33,7 +36,7 @@ from terms import parse
 
 REASONS = pathlib.Path(__file__).with_suffix(".tsv")
 # The words with which a reason begins.
-WORDS = ("handed in", "told otherwise", "tested", "open")
+WORDS = ("handed in", "told otherwise", "tested", "growth", "open")
 # Examples and programs.
 OTHERS = re.compile(r"example_\w+|\w+_example|rpki_ask|rpki_check")
 
@@ -131,6 +134,8 @@ class Libraries:
 
     def leaves(self, written, path, deep=0):
         """The variants of an error type: names, each with an answer that has it."""
+        if re.match(r"\d", written):
+            return [(status, Con(status, of_error=True)) for status in written.split("|")]
         declared, given = self.declared(written, path)
         if declared is None or deep > 4 or not declared.parts and declared.is_enum:
             return [("", OF_ERROR)]
@@ -176,21 +181,22 @@ class Libraries:
         read_imports(module, self.texts[call.path])
         clauses = self.statements_of(call)
         for name, error in self.leaves(call.error, call.path):
-            names = {"result": Con("Err", (error,), True)}
-            yield name or "-", [(clause, self.follower.says(term, names, module)) for clause, term in clauses]
+            names = {"result": error if call.error[0].isdigit() else Con("Err", (error,), True)}
+            yield name or ("growth" if is_growth(call) else "-"), [(clause, self.follower.says(term, names, module)) for clause, term in clauses]
 
     def silent(self, call):
         """The variants of which no clause says anything."""
         return [name for name, clauses in self.left_of(call) if not any(it in (SAYS, FALSE) for _, it in clauses)]
 
 
-def is_asked(call):
-    return call.error.split("<")[0].split("::")[-1] not in GROWTHS
+def is_growth(call):
+    """Whether a call's only error is a refused growth."""
+    return call.error.split("<")[0].split("::")[-1] in GROWTHS
 
 
 def rows_of(libraries):
     """The variants of which no clause says anything, by call."""
-    return [(call, name) for call in libraries.calls if is_asked(call) for name in libraries.silent(call)]
+    return [(call, name) for call in libraries.calls for name in libraries.silent(call)]
 
 
 def read_reasons():
@@ -244,14 +250,14 @@ def compare(libraries, is_listed, is_pruned):
         prune(set(stale))
     faults += 0 if is_pruned else len(stale)
     said = ", ".join(f"{counts[word]} {word}" for word in WORDS)
-    print(f"{sum(map(is_asked, libraries.calls))} calls; errors of which no clause says anything: {said}")
+    print(f"{len(libraries.calls)} calls; errors of which no clause says anything: {said}")
     return faults
 
 
 def follow(libraries, word):
     """Prints what is left of each clause of some calls."""
     for call in libraries.calls:
-        if word in call.label() and is_asked(call):
+        if word in call.label():
             print(f"{call.label()} ({call.path.relative_to(TOP)}:{call.line}) {call.error}")
             for name, clauses in libraries.left_of(call):
                 print(f"    {name}: {', '.join(f'{clause} {it}'.strip() for clause, it in clauses)}")

@@ -1,5 +1,5 @@
 -- Where a certificate's fields weren't written, or not signed.
-use Rattle.std.proofs.Common.{◌≡◌, ◌≢◌, ℕ, ◌≤◌, Result, Ok, Err, IfErr, refl, subst}
+use Rattle.std.proofs.Common.{◌≡◌, ◌≢◌, ℕ, ◌≤◌, List, Result, Ok, Err, IfErr, refl, subst}
 use Rattle.certs.specs.bcder_tree.declared.mode.Mode.TheVariants.{Der}
 use Rattle.certs.specs.bcder_values.Gathered.{ExtendRefused}
 use Rattle.certs.specs.bcder_primitive.Writing.{HasLength}
@@ -9,8 +9,8 @@ use Rattle.certs.specs.certs_key.declared.signer.SigningError.{SigningError}
 use Rattle.certs.specs.certs_key.declared.signer.SigningError.TheVariants as errors
 use Rattle.certs.specs.certs_extension.Cert.{TbsValue}
 use Rattle.certs_x509.proofs.Few.{few_octets}
-use Rattle.certs.specs.Signing.{CanBeWritten, NotWritten, SigningRefused}
-use Rattle.certs.specs.Tbs.{tbs}
+use Rattle.certs.specs.Signing.{NotWritten, SigningRefused}
+use Rattle.certs.specs.Tbs.{WritesTbs, tbs}
 
 -- Why nothing was written.
 why : (c : TbsValue) (e : EncodeError) → ExtendRefused ((tbs c).trees Der) ((tbs c).writes Der) e
@@ -29,10 +29,10 @@ pub not_written : {A : Type 0} {v c : TbsValue} (r : Result A EncodeError) → v
     → IfErr r (λ e. e ≡ causes.Memory → (n : ℕ) × HasLength ((tbs v).writes Der) n × (1 ≤ n)) → IfErr r (NotWritten c)
 not_written {v = v} r same p m = subst (λ (z : TbsValue). IfErr r (NotWritten z)) same (none_written v r p m)
 
--- Whatever the signer answers, the fields can be written.
-pub any_refused : {E : Type 0} (refuses : SigningError E → Type 0) (c : TbsValue) (e : SigningError E) → e ≢ errors.TooLong → refuses e → CanBeWritten c → SigningRefused refuses c e
-any_refused refuses c errors.KeyNotFound n r w = (w, r)
-any_refused refuses c errors.IncompatibleKey n r w = (w, r)
-any_refused refuses c (errors.Signer e) n r w = (w, r)
-any_refused refuses c errors.TooLong n r w = absurd (n refl)
-any_refused refuses c errors.Memory n r w = w
+-- Whatever the signer answers of what is written of the fields.
+pub any_refused : {E : Type 0} (refuses : List ℕ → SigningError E → Type 0) (c : TbsValue) (text : List ℕ) (e : SigningError E) → WritesTbs c text → e ≢ errors.TooLong → refuses text e → SigningRefused refuses c e
+any_refused refuses c text errors.KeyNotFound w n r = ((text, w), (text, w, r))
+any_refused refuses c text errors.IncompatibleKey w n r = ((text, w), (text, w, r))
+any_refused refuses c text (errors.Signer e) w n r = ((text, w), (text, w, r))
+any_refused refuses c text errors.TooLong w n r = absurd (n refl)
+any_refused refuses c text errors.Memory w n r = (text, w)

@@ -14,8 +14,14 @@ CanBeWritten c = (text : List ℕ) × WritesTbs c text
 abbrev pub NotWritten : TbsValue → EncodeError → Type 0
 NotWritten c = NotWrittenIf (CanBeWritten c) (CanBeWritten c → ⊥)
 
--- The fields can be written, but for `TooLong`, which no signer answers: the signer is asked after that, and memory too.
--- `refuses` says by which errors the signer refuses.
-abbrev pub SigningRefused : {E : Type 0} → (refuses : SigningError E → Type 0) → TbsValue
+-- What is written of the fields in DER is refused, where `refuses` says by which errors a message is (RFC 5280 4.1.1.3).
+abbrev pub RefusesTbs : {E : Type 0} → (refuses : List ℕ → SigningError E → Type 0) → TbsValue
     → SigningError E → Type 0
-SigningRefused refuses c = SigningRefusedIf refuses (CanBeWritten c) (CanBeWritten c → ⊥)
+RefusesTbs refuses c e = (text : List ℕ) × WritesTbs c text × refuses text e
+
+-- The fields can be written, but for `TooLong`, which no signer answers: the signer is asked after that, and memory too. It is
+-- asked to sign what is written of them.
+abbrev pub SigningRefused : {E : Type 0} → (refuses : List ℕ → SigningError E → Type 0) → TbsValue
+    → SigningError E → Type 0
+SigningRefused refuses c = SigningRefusedIf (RefusesTbs refuses c) (CanBeWritten c)
+    (CanBeWritten c → ⊥)

@@ -36,26 +36,26 @@ pub list_writable : (c : TbsListValue) → CanBeWritten c → Writable (entry_li
 list_writable c w = let e = entries_stand w.1 in listed_writable c.revoked e.0 e.1
 
 -- Without the octets of its entries no list is signed.
-pub unlisted : {E : Type 0} (refuses : SigningError E → Type 0) (gathers : Bool) (c : TbsListValue) → (CanBeWritten c → ⊥) → IntoRefused gathers refuses c errors.TooLong
+pub unlisted : {E : Type 0} (refuses : List ℕ → SigningError E → Type 0) (gathers : Bool) (c : TbsListValue) → (CanBeWritten c → ⊥) → IntoRefused gathers refuses c errors.TooLong
 unlisted refuses false c n = n
 unlisted refuses true c n = inr n
 
-pub no_memory : {E : Type 0} (refuses : SigningError E → Type 0) (gathers : Bool) (c : TbsListValue) → gathers ≡ true → IntoRefused gathers refuses c errors.Memory
+pub no_memory : {E : Type 0} (refuses : List ℕ → SigningError E → Type 0) (gathers : Bool) (c : TbsListValue) → gathers ≡ true → IntoRefused gathers refuses c errors.Memory
 no_memory refuses false c e = absurd cc
 no_memory refuses true c e = inl refl
 
 -- With these octets it is refused as any other.
-as_other : {E : Type 0} (refuses : SigningError E → Type 0) (gathers : Bool) (c : TbsListValue) (e : SigningError E) → SigningRefused refuses c e → IntoRefused gathers refuses c e
+as_other : {E : Type 0} (refuses : List ℕ → SigningError E → Type 0) (gathers : Bool) (c : TbsListValue) (e : SigningError E) → SigningRefused refuses c e → IntoRefused gathers refuses c e
 as_other refuses false c e h = h
 as_other refuses true c e h = inr h
 
-pub into_refused : {A E : Type 0} (refuses : SigningError E → Type 0) (gathers : Bool) (c : TbsListValue) (r : Result A (SigningError E)) → IfErr r (SigningRefused refuses c)
+pub into_refused : {A E : Type 0} (refuses : List ℕ → SigningError E → Type 0) (gathers : Bool) (c : TbsListValue) (r : Result A (SigningError E)) → IfErr r (SigningRefused refuses c)
     → IfErr r (IntoRefused gathers refuses c)
 into_refused refuses gathers c (Ok x) h = tt
 into_refused refuses gathers c (Err e) h = as_other refuses gathers c e h
 
 -- By why its octets weren't made.
-pub refused_by : {E : Type 0} (refuses : SigningError E → Type 0) (gathers : Bool) (c : TbsListValue) (e : EncodeError) → LacksEntries gathers c.revoked e → IntoRefused gathers refuses c (as_signing e)
+pub refused_by : {E : Type 0} (refuses : List ℕ → SigningError E → Type 0) (gathers : Bool) (c : TbsListValue) (e : EncodeError) → LacksEntries gathers c.revoked e → IntoRefused gathers refuses c (as_signing e)
 refused_by refuses gathers c causes.CerUnsupported h = unlisted refuses gathers c (λ w. h (list_writable c w))
 refused_by refuses gathers c causes.TooLong h = unlisted refuses gathers c (λ w. h (list_writable c w))
 refused_by refuses gathers c causes.Write h = absurd h

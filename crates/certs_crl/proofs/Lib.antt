@@ -3,6 +3,7 @@ mod Pairs
 mod Listed
 mod Whole
 mod Spelled
+mod Octets
 mod Stored
 mod Again
 mod Writing

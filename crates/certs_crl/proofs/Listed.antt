@@ -16,14 +16,14 @@ use Rattle.certs_crl.specs.certs_basics.Basics.{IsAlgorithm}
 use Rattle.certs_basics.proofs.Values.{algorithm_one}
 use Rattle.certs_x509.proofs.of_certs_extension.Values.{extension_one}
 use Rattle.certs_x509.specs.Listing.{entry_one}
-use Rattle.certs_x509.specs.certs_extension.CrlText.{AreRevoked, HasListExtensions, IsTbsList, IsTbsListBody, ListFields, RevokedValue, TbsListValue}
+use Rattle.certs_x509.specs.certs_extension.CrlText.{AreRevoked, HasListExtensions, IsTbsList, IsTbsListBody, ListFields, RevokedValue, SaysList, TbsListValue}
 use Rattle.certs_x509.specs.certs_extension.Extensions.{Extension, IsExtension}
 use Rattle.certs_crl.specs.Fields.{ListOf}
 use Rattle.certs_crl.specs.Reading.{Finishes, IsOfList, IsPair, IsRead, IsReadBody, IsTail, Pair, ReadFields, SaysBoth, SaysRead, TailFields, list_of, pair_of}
 use Rattle.certs_crl.proofs.Pairs.{both_known}
 
 -- The first value stays, and other values come after it.
-with_rest : {A B C : Type 0} {Q : Tree → A → Type 0} {R : Trees → B → Type 0} {S : Trees → C → Type 0} {ts : Trees} {x : A × B} {y : C}
+pub with_rest : {A B C : Type 0} {Q : Tree → A → Type 0} {R : Trees → B → Type 0} {S : Trees → C → Type 0} {ts : Trees} {x : A × B} {y : C}
     → (h : Then Q R ts x) → S h.others y → Then Q S ts (x.0, y)
 with_rest h r = record { first = h.first; others = h.others; whole = h.whole; is = h.is; rest = r }
 
@@ -96,25 +96,33 @@ list_pair {m} p ts known h =
       rest = record { first = c.4.0; others = c.4.1; whole = c.4.2; is = record { is = c.4.3; meets = known.1 }; rest = record { ended = c.4.4 } };
     }
 
+-- The fields as they were read, with the extensions as a list.
+abbrev pub list_fields : ReadFields → ListFields
+list_fields f = (f.0, (f.1.0, (f.1.1.0, (f.1.1.1.0, (f.1.1.1.1.0, (f.1.1.1.1.1.0, ((list_of (pair_of f), tt), tt)))))))
+
+pub list_tail : {m : Mode} {ts : Trees} (f : ReadFields) → IsTail m ts f.1.1.1.1.1 → IsListTail m ts (f.1.1.1.1.1.0, ((list_of (pair_of f), tt), tt))
+list_tail f p = with_opt (λ us l. within us (pair_list (pair_of f)) l) p
+
+pub says_list : {f : ReadFields} {c : TbsListValue} → SaysRead f c → SaysList (list_fields f) c
+says_list s = record {
+  has_null = s.has_null;
+  issuer = s.issuer;
+  this_update = s.this_update;
+  next_update = s.next_update;
+  revoked = s.revoked;
+  extensions = record { count = refl; authority_key_identifier = s.extensions.key_is; number = s.extensions.number_is };
+}
+
 -- From the fields as they were read to the list's.
 pub read_tbs : {m : Mode} {t : Tree} {f : ReadFields} {c : TbsListValue} → IsRead m t f → SaysRead f c → IsTbsList m t c
-read_tbs {m} {t} {f} {c} p s =
+read_tbs {m} {f = f} p s =
     let a = p.is in
-    let tail : IsListTail m a.rest.rest.rest.rest.others (f.1.1.1.1.1.0, ((list_of (pair_of f), tt), tt)) =
-    with_opt (λ us l. within us (pair_list (pair_of f)) l) a.rest.rest.rest.rest.rest in
-    let g : ListFields = (f.0, (f.1.0, (f.1.1.0, (f.1.1.1.0, (f.1.1.1.1.0, (f.1.1.1.1.1.0, ((list_of (pair_of f), tt), tt))))))) in
-    let body : IsTbsListBody m p.values g = with_rest a (with_rest a.rest (with_rest a.rest.rest (with_rest a.rest.rest.rest (with_rest a.rest.rest.rest.rest tail)))) in
+    let tail = list_tail f a.rest.rest.rest.rest.rest in
+    let body : IsTbsListBody m p.values (list_fields f) = with_rest a (with_rest a.rest (with_rest a.rest.rest (with_rest a.rest.rest.rest (with_rest a.rest.rest.rest.rest tail)))) in
     record {
-      fields = g;
+      fields = list_fields f;
       is = record { values = p.values; whole = p.whole; is = body };
-      says = record {
-        has_null = s.has_null;
-        issuer = s.issuer;
-        this_update = s.this_update;
-        next_update = s.next_update;
-        revoked = s.revoked;
-        extensions = record { count = refl; authority_key_identifier = s.extensions.key_is; number = s.extensions.number_is };
-      };
+      says = says_list s;
     }
 
 -- The fields as they are read, of a list's.

@@ -17,14 +17,14 @@ use Rattle.certs_crl.specs.bcder_tree.declared.mode.Mode.TheVariants.{Der}
 use Rattle.certs_crl.specs.bcder_tree.Front.{Front}
 use Rattle.certs_crl.specs.certs_basics.Basics.{IsSerial}
 use Rattle.certs_x509.specs.certs_extension.Extensions.{Extension, IsAuthority, IsAuthorityKeyIdentifier, IsExtension, IsOptional, May}
-use Rattle.certs_crl.specs.Invalid.{TellsInvalid}
+use Rattle.certs_crl.specs.Invalid.{IsInvalidTold, TellsInvalid, TellsUnknown, UnknownAhead}
 use Rattle.certs_crl.specs.Reading.{AreFronts, IsListExtension, IsOfList, ReadsBoth, ReadsFronts, SaysBoth}
 use Rattle.certs_x509.proofs.of_certs_extension.Values.{extension_one}
 use Rattle.certs_crl.proofs.of_bcder_content.Choices.{such_refused}
 use Rattle.certs_crl.proofs.of_bcder_content.Fronts.{front_lacks, front_reads}
 use Rattle.certs_crl.proofs.of_bcder_content.InMode.{filled_end}
-use Rattle.certs_crl.proofs.of_bcder_content.Taking.{weaker}
-use Rattle.certs_crl.proofs.of_bcder_content.Took.{ended_none, whole_none}
+use Rattle.certs_crl.proofs.of_bcder_content.Taking.{on_content, weaker}
+use Rattle.certs_crl.proofs.of_bcder_content.Took.{ended_none, one_took, whole_none}
 use Rattle.certs_crl.proofs.of_bcder_content.Unique.{as_tagged, inside_tagged}
 
 pub extension_tagged : {m : Mode} → Tagged sequence_tag (IsExtension m)
@@ -50,6 +50,32 @@ pub told_refused : {E P : Type 0} (kind : List ℕ) (e : DecodeError E) → Tell
 told_refused kind (Content error pos) h p = p
 told_refused kind (Source error) h p = absurd h
 told_refused kind Memory h p = absurd h
+
+-- The extension that was read is the one that is next, and is told.
+same_kind : {v new : ValuesLeft} {x e : Extension} → Gives (IsExtension v.mode) v x new → UnknownAhead v e → x ≡ e
+same_kind {v} {x = x} {e} g u =
+    let same : g.tree ≡ u.tree = (one_took g.took u.ahead.1).0 in
+    extension_one.one u.tree x e (subst (λ (t : Tree). IsExtension v.mode t x) same g.is) u.is
+
+pub tells_kind : {E : Type 0} {v new : ValuesLeft} {x : Extension} (r : DecodeError E) → TellsInvalid x.kind r → Gives (IsExtension v.mode) v x new → TellsUnknown v r
+tells_kind (Content error pos) h g = λ e u. subst (λ (z : Extension). IsInvalidTold z.kind error) (same_kind g u) h
+tells_kind (Source error) h g = tt
+tells_kind Memory h g = tt
+
+-- No extension is next that a list doesn't have: there is none at all, it was refused, or it is one of a list.
+tells_none : {E : Type 0} {v : ValuesLeft} (r : DecodeError E) → OnContent r ((e : Extension) → UnknownAhead v e → ⊥) → TellsUnknown v r
+tells_none (Content error pos) h = λ e u. absurd (h e u)
+tells_none (Source error) h = tt
+tells_none Memory h = tt
+
+pub tells_lacks : {E : Type 0} {v : ValuesLeft} (r : DecodeError E) → OnContent r (LacksTagged sequence_tag (IsExtension v.mode) v) → TellsUnknown v r
+tells_lacks r h = tells_none r (weaker r (λ l e u. l.lacks.none u.tree e u.is u.ahead) h)
+
+pub tells_absent : {E : Type 0} {v : ValuesLeft} (r : DecodeError E) → Unlike v sequence_tag → TellsUnknown v r
+tells_absent r h = tells_none r (on_content r (λ e u. h.none u.tree u.ahead (extension_tagged.tagged u.tree e u.is)))
+
+pub tells_known : {E : Type 0} {v new : ValuesLeft} {x : Extension} (r : DecodeError E) → IsOfList x → Gives (IsExtension v.mode) v x new → TellsUnknown v r
+tells_known r known g = tells_none r (on_content r (λ e u. u.unknown (subst IsOfList (same_kind g u) known)))
 
 -- Those of two extensions that are of a kind.
 abbrev picked : Bool → Bool → Extension → Extension → List Extension

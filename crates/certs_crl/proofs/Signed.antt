@@ -25,10 +25,10 @@ module _ (c : TbsListValue) (P : List ℕ → Type 0) (sound : (text : List ℕ)
   not_written (Ok x) h = tt
   not_written (Err e) h = why e h
 
--- Whatever the signer answers, the list can be written.
-pub any_refused : {E : Type 0} (refuses : SigningError E → Type 0) {c : TbsListValue} (e : SigningError E) → e ≢ errors.TooLong → refuses e → CanBeWritten c → SigningRefused refuses c e
-any_refused refuses errors.KeyNotFound n r w = (w, r)
-any_refused refuses errors.IncompatibleKey n r w = (w, r)
-any_refused refuses (errors.Signer e) n r w = (w, r)
-any_refused refuses errors.TooLong n r w = absurd (n refl)
-any_refused refuses errors.Memory n r w = w
+-- Whatever the signer answers of what is written of the list.
+pub any_refused : {E : Type 0} (refuses : List ℕ → SigningError E → Type 0) {c : TbsListValue} (text : List ℕ) (e : SigningError E) → WritesInDer c text → e ≢ errors.TooLong → refuses text e → SigningRefused refuses c e
+any_refused refuses text errors.KeyNotFound w n r = ((text, w), (text, w, r))
+any_refused refuses text errors.IncompatibleKey w n r = ((text, w), (text, w, r))
+any_refused refuses text (errors.Signer e) w n r = ((text, w), (text, w, r))
+any_refused refuses text errors.TooLong w n r = absurd (n refl)
+any_refused refuses text errors.Memory w n r = (text, w)

@@ -1,5 +1,6 @@
 -- Octets that spell a revocation list in DER are those of a tree, which is that list.
 use Rattle.std.proofs.Common.{ℕ, List, Result, Ok, Err}
+use Rattle.certs_crl.specs.bcder_tree.declared.mode.Mode.{Mode}
 use Rattle.certs_crl.specs.bcder_tree.declared.mode.Mode.TheVariants.{Der}
 use Rattle.certs_crl.specs.bcder_tree.Tags.{sequence_tag}
 use Rattle.certs_crl.specs.bcder_tree.Tree.{Tree, Trees, Spells, SpellsAll, constructed, none, more}
@@ -12,28 +13,28 @@ use Rattle.certs_x509.specs.certs_extension.CrlText.{CrlValue, IsCrl, ListFields
 use Rattle.certs_x509.specs.certs_extension.Spellings.{CrlIsSpelled}
 
 -- The octets spell a tree; they spell trees, one after the other.
-record HasTree (text : List ℕ) : Type 0 where
-  tree : Tree
-  spelled : Spells Der tree text
+pub record HasTree (m : Mode) (text : List ℕ) : Type 0 where
+  pub tree : Tree
+  pub spelled : Spells m tree text
 
-record HasTrees (text : List ℕ) : Type 0 where
+record HasTrees (m : Mode) (text : List ℕ) : Type 0 where
   trees : Trees
-  spelled : SpellsAll Der trees text
+  spelled : SpellsAll m trees text
 
-empty : {text : List ℕ} {x : Unit {0}} → NoOctets text x → HasTrees text
+empty : {m : Mode} {text : List ℕ} {x : Unit {0}} → NoOctets text x → HasTrees m text
 empty p = record { trees = none; spelled = p.none }
 
-ordered : {A : Type 0} {P : Trees → A → Type 0} {text : List ℕ} {x : A} → InOrder Der P text x → HasTrees text
+ordered : {m : Mode} {A : Type 0} {P : Trees → A → Type 0} {text : List ℕ} {x : A} → InOrder m P text x → HasTrees m text
 ordered p = record { trees = p.trees; spelled = p.spelled }
 
-joined : {A B : Type 0} {P : List ℕ → A → Type 0} {R : List ℕ → B → Type 0} {text : List ℕ} {x : A × B}
-    → (p : Joins P R text x) → (t : Tree) → Spells Der t p.first → HasTrees p.others → HasTrees text
+joined : {m : Mode} {A B : Type 0} {P : List ℕ → A → Type 0} {R : List ℕ → B → Type 0} {text : List ℕ} {x : A × B}
+    → (p : Joins P R text x) → (t : Tree) → Spells m t p.first → HasTrees m p.others → HasTrees m text
 joined p t s h = record { trees = more t h.trees; spelled = (p.first, p.others, s, h.spelled, p.whole) }
 
-wrapped : {A : Type 0} {P : List ℕ → A → Type 0} {text : List ℕ} {x : A} → (p : Wraps Der sequence_tag P text x) → HasTrees p.content → HasTree text
+wrapped : {m : Mode} {A : Type 0} {P : List ℕ → A → Type 0} {text : List ℕ} {x : A} → (p : Wraps m sequence_tag P text x) → HasTrees m p.content → HasTree m text
 wrapped p h = record { tree = constructed sequence_tag h.trees; spelled = (p.content, p.around, h.spelled) }
 
-fields_tree : {text : List ℕ} {f : ListFields} → SpellsListFields Der text f → HasTree text
+pub fields_tree : {m : Mode} {text : List ℕ} {f : ListFields} → SpellsListFields m text f → HasTree m text
 fields_tree w =
     let version = w.is in
     let algorithm = version.rest in
@@ -44,7 +45,7 @@ fields_tree w =
     (joined issuer issuer.is.is.tree issuer.is.is.spelled
     (ordered issuer.rest))))
 
-crl_tree : {text : List ℕ} {c : CrlValue} → SpellsCrl Der text c → HasTree text
+crl_tree : {text : List ℕ} {c : CrlValue} → SpellsCrl Der text c → HasTree Der text
 crl_tree p =
     let message = p.is.is in
     let algorithm = message.rest in

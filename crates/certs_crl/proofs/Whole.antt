@@ -58,7 +58,7 @@ message_is {m} {s} {tbs} d {t} text =
     subst (λ (u : Tree). IsTbsList m u tbs) same d.is
 
 -- The list of signed data in that mode.
-abbrev in_mode : SignedDataValue → TbsListValue → Mode → CrlValue
+abbrev pub in_mode : SignedDataValue → TbsListValue → Mode → CrlValue
 in_mode s tbs m = record { signed = record (signed_of s) { mode = m }; tbs = tbs; caches = false }
 
 message_crl : {m : Mode} {s : SignedDataValue} {tbs : TbsListValue} {c : CrlValue} → WasRead m s tbs → c ≡ record { signed = signed_of s; tbs = tbs; caches = false } → tbs.has_null ≡ s.signature.algorithm

@@ -1,10 +1,14 @@
 -- The text of a refusal for an extension that a revocation list doesn't have (RFC 6487 5).
 use Rattle.std.specs.Prelude.{◌≡◌, ℕ, List, ◌++◌, Result, Ok, Err, codes, string_bytes}
+use Rattle.certs_crl.specs.bcder_tree.Tree.{Tree}
+use Rattle.certs_crl.specs.bcder_content.Contents.{Ahead, ValuesLeft}
 use Rattle.certs_crl.specs.bcder_source.declared.error.ContentError.{ContentError}
 use Rattle.certs_crl.specs.bcder_source.declared.error.ContentError.TheVariants.{Static, Owned, ExpectedTag, ExpectedInteger}
 use Rattle.certs_crl.specs.bcder_source.declared.error.DecodeError.{DecodeError}
 use Rattle.certs_crl.specs.bcder_source.declared.error.DecodeError.TheVariants.{Content, Source, Memory}
+use Rattle.certs_crl.specs.Reading.{IsOfList}
 use Rattle.certs_x509.specs.bcder.Printed.{oid_text}
+use Rattle.certs_x509.specs.certs_extension.Extensions.{Extension, IsExtension}
 
 -- `invalid extension `, and the components of the identifier in decimal digits, with dots between them.
 abbrev pub invalid_text : List ℕ → List ℕ
@@ -38,3 +42,16 @@ abbrev pub TellsInvalid : {E : Type 0} → List ℕ → DecodeError E → Type 0
 TellsInvalid kind (Content error pos) = IsInvalidTold kind error
 TellsInvalid kind (Source error) = ⊥
 TellsInvalid kind Memory = ⊥
+
+-- The next value is an extension that a list doesn't have (RFC 6487 5).
+pub record UnknownAhead (v : ValuesLeft) (e : Extension) : Type 0 where
+  pub tree : Tree
+  pub is : IsExtension v.mode tree e
+  pub unknown : IsOfList e → ⊥
+  pub ahead : Ahead v tree
+
+-- Where such an extension is next and the octets are refused, that extension is told.
+abbrev pub TellsUnknown : {E : Type 0} → ValuesLeft → DecodeError E → Type 0
+TellsUnknown v (Content error pos) = (e : Extension) → UnknownAhead v e → IsInvalidTold e.kind error
+TellsUnknown v (Source error) = Unit {0}
+TellsUnknown v Memory = Unit {0}

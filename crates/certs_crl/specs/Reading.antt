@@ -7,11 +7,11 @@ use Rattle.certs_crl.specs.bcder_source.Errors.{OnContent}
 use Rattle.certs_crl.specs.bcder_source.declared.error.DecodeError.{DecodeError}
 use Rattle.certs_crl.specs.bcder_content.Grammar.{Inside, Then, Opt, End, Where}
 use Rattle.certs_crl.specs.bcder_content.Kept.{CapturedValue}
-use Rattle.certs_crl.specs.bcder_content.Texts.{ReadsFront}
+use Rattle.certs_crl.specs.bcder_content.Texts.{InOrder, Joins, ReadsFront, SpellsOf, Wraps}
 use Rattle.certs_crl.specs.Fields.{ListOf, as_list}
 use Rattle.certs_crl.specs.certs_basics.Basics.{IsSerial, IsAlgorithm}
 use Rattle.certs_crl.specs.certs_basics.Identifiers as id
-use Rattle.certs_crl.specs.certs_basics.Names.{IsKeptName}
+use Rattle.certs_crl.specs.certs_basics.Names.{IsKeptName, SpellsName}
 use Rattle.certs_crl.specs.certs_basics.Forms.{IsTime}
 use Rattle.certs_crl.specs.certs_extension.Raw.{extension_value}
 use Rattle.certs_crl.specs.certs_extension.declared.extension.Extension.{Extension as Raw}
@@ -77,6 +77,14 @@ Listed = Bool × CapturedValue × ℕ × ℕ × (Option (List RevokedValue) × (
 
 abbrev pub read_fields : Listed → ReadFields
 read_fields x = (tt, (x.0, (x.1, (x.2, (x.3, tail_fields x.4)))))
+
+-- By their octets, from the outermost value down to the name, which is the very octets that stand there.
+abbrev pub SpellsReadBody : Mode → List ℕ → ReadFields → Type 0
+SpellsReadBody m = Joins (SpellsOf m (IsVersion 1)) (Joins (SpellsOf m IsAlgorithm)
+    (Joins (SpellsName m) (InOrder m (Then IsTime (Then IsTime (IsTail m))))))
+
+abbrev pub SpellsRead : Mode → List ℕ → ReadFields → Type 0
+SpellsRead m = Wraps m sequence_tag (SpellsReadBody m)
 
 -- The two extensions.
 abbrev pub pair_of : ReadFields → Pair

@@ -26,11 +26,18 @@ CanBeWritten c = (text : List ℕ) × WritesInDer c text
 abbrev pub NotWritten : TbsListValue → EncodeError → Type 0
 NotWritten c = NotWrittenIf (CanBeWritten c) (CanBeWritten c → ⊥)
 
--- The list can be written, but for `TooLong`, which no signer answers: the signer is asked after that, and memory too.
--- `refuses` says by which errors the signer refuses.
-abbrev pub SigningRefused : {E : Type 0} → (refuses : SigningError E → Type 0) → TbsListValue
+-- What is written of the list's fields in DER is refused, where `refuses` says by which errors a message is (RFC 5280
+-- 5.1.1.3).
+abbrev pub RefusesTbs : {E : Type 0} → (refuses : List ℕ → SigningError E → Type 0) → TbsListValue
     → SigningError E → Type 0
-SigningRefused refuses c = SigningRefusedIf refuses (CanBeWritten c) (CanBeWritten c → ⊥)
+RefusesTbs refuses c e = (text : List ℕ) × WritesInDer c text × refuses text e
+
+-- The list can be written, but for `TooLong`, which no signer answers: the signer is asked after that, and memory too. It is
+-- asked to sign what is written of its fields.
+abbrev pub SigningRefused : {E : Type 0} → (refuses : List ℕ → SigningError E → Type 0)
+    → TbsListValue → SigningError E → Type 0
+SigningRefused refuses c = SigningRefusedIf (RefusesTbs refuses c) (CanBeWritten c)
+    (CanBeWritten c → ⊥)
 
 -- Why there are no octets of entries: nothing can be written of them in DER (RFC 5280 5.1.2.6), or there was no memory,
 -- where memory is taken for them.
@@ -48,7 +55,7 @@ as_signing causes.Write = errors.TooLong
 as_signing causes.Memory = errors.Memory
 
 -- The list isn't signed, or there was no memory for the octets of its entries, where memory is taken for them.
-abbrev pub IntoRefused : {E : Type 0} → (gathers : Bool) → (refuses : SigningError E → Type 0)
-    → TbsListValue → SigningError E → Type 0
+abbrev pub IntoRefused : {E : Type 0} → (gathers : Bool)
+    → (refuses : List ℕ → SigningError E → Type 0) → TbsListValue → SigningError E → Type 0
 IntoRefused false refuses c e = SigningRefused refuses c e
 IntoRefused true refuses c e = (e ≡ errors.Memory) ⊎ SigningRefused refuses c e

@@ -49,7 +49,8 @@ fn signed_by<S: Signer>(
     ensures algorithm { IfOk result (λ signed. signed.signature.algorithm ≡ tbs.now.has_null) }
     ensures signed { IfOk result (λ signed. S.signs signer.now key.now
         signed.message.octets signed.signature.bits.octets) }
-    ensures refused { IfErr result (SigningRefused (S.refuses signer.now) (as_list tbs.now)) }
+    ensures refused { IfErr result
+        (SigningRefused (S.refuses signer.now key.now) (as_list tbs.now)) }
 {
     let message = match message_of(alloc, tbs) {
         Ok(message) => message,
@@ -75,7 +76,8 @@ pub(crate) fn crl_of<S: Signer>(
     ensures uncached { IfOk result (λ crl. crl.caches ≡ false) }
     ensures signed { IfOk result (λ crl. S.signs signer.now key.now
         crl.signed.message crl.signed.signature) }
-    ensures refused { IfErr result (SigningRefused (S.refuses signer.now) (as_list tbs)) }
+    ensures refused { IfErr result
+        (SigningRefused (S.refuses signer.now key.now) (as_list tbs)) }
 {
     match signed_by(alloc, &tbs, signer, key) {
         Ok(signed) => Ok(Crl::from_parts(signed, tbs)),

@@ -125,7 +125,7 @@ impl<C: IntoRevoked> TbsCertList<C> {
         ensures uncached { IfOk result (λ crl. crl.caches ≡ false) }
         ensures signed { IfOk result (λ crl. S.signs signer.now key.now
             crl.signed.message crl.signed.signature) }
-        ensures refused { IfErr result (IntoRefused C.gathers (S.refuses signer.now)
+        ensures refused { IfErr result (IntoRefused C.gathers (S.refuses signer.now key.now)
             (as_list_by C.entries self)) }
     {
         let tbs = match self.into_revoked(alloc) {

@@ -1,6 +1,6 @@
 //! The two extensions of a revocation list (RFC 5280 5.2, RFC 6487 5).
 
-ghost use Rattle.std.specs.Prelude.{◌≡◌, ◌↔◌, [], ◌∷◌, IsTrue};
+ghost use Rattle.std.specs.Prelude.{◌≡◌, ◌↔◌, [], ◌∷◌, IfErr, IsTrue};
 ghost use Rattle.certs_crl.specs.bcder_tree.declared.mode.Mode.TheVariants.{Der};
 ghost use Rattle.certs_crl.specs.bcder_tree.Tags.{context, sequence_tag};
 ghost use Rattle.certs_crl.specs.bcder_content.Captures.{rest_of};
@@ -10,7 +10,7 @@ ghost use Rattle.certs_crl.specs.bcder_content.Here.{here};
 ghost use Rattle.certs_crl.specs.bcder_content.InMode.{ReadsFields};
 ghost use Rattle.certs_crl.specs.certs_basics.Basics.{IsSerial};
 ghost use Rattle.certs_crl.specs.certs_basics.Identifiers as id;
-ghost use Rattle.certs_crl.specs.Invalid.{IsMadeOrFixed, TellsInvalid};
+ghost use Rattle.certs_crl.specs.Invalid.{IsMadeOrFixed, TellsInvalid, TellsUnknown};
 ghost use Rattle.certs_crl.specs.Reading.{IsListExtension, IsNoMore, IsOfList, IsPair, IsPaired, ReadsBoth, ReadsFronts, alone, pair_fields};
 ghost use Rattle.certs_crl.specs.certs_extension.Raw.{extension_value};
 ghost use Rattle.certs_x509.specs.certs_extension.Extensions.{IsAuthority};
@@ -62,13 +62,14 @@ fn unknown<S: Source>(
     cons.content_err(made_or_fixed(made))
 }
 
-// The next extension, which has to be there, and to be one of the two of a list.
+// The next extension, which has to be there, and to be one of the two of a list; another is told by its identifier.
 fn take_extension<S: Source>(
     alloc: Global,
     cons: &mut Constructed<S>,
 ) -> Result<Extension, DecodeError<S::Error>>
-    ensures { ReadsAs extension_value (IsListExtension (here S.rest cons.old).mode)
+    ensures reads { ReadsAs extension_value (IsListExtension (here S.rest cons.old).mode)
         (here S.rest cons.old) result (here S.rest cons.new) }
+    ensures told { IfErr result (TellsUnknown (here S.rest cons.old)) }
 {
     let extension = match Extension::take_opt_from(alloc, cons) {
         Ok(Some(extension)) => extension,
@@ -83,22 +84,24 @@ fn take_extension<S: Source>(
     Err(unknown(alloc, cons, extension))
 }
 
-// No third extension.
+// No third extension; one that a list doesn't have is told by its identifier.
 fn take_no_more<S: Source>(
     alloc: Global,
     cons: &mut Constructed<S>,
 ) -> Result<(), DecodeError<S::Error>>
-    ensures { ReadsFields (λ x. x) IsNoMore (here S.rest cons.old) result (here S.rest cons.new) }
+    ensures reads { ReadsFields (λ x. x) IsNoMore
+        (here S.rest cons.old) result (here S.rest cons.new) }
+    ensures told { IfErr result (TellsUnknown (here S.rest cons.old)) }
 {
-    let extension = match Extension::take_opt_from(alloc, cons) {
+    let third = match Extension::take_opt_from(alloc, cons) {
         Ok(Some(extension)) => extension,
         Ok(None) => return Ok(()),
         Err(error) => return Err(error),
     };
-    if is_known(&extension) {
+    if is_known(&third) {
         return Err((*cons).content_err(ContentError::from_static("a third extension")));
     }
-    Err(unknown(alloc, cons, extension))
+    Err(unknown(alloc, cons, third))
 }
 
 // Two extensions, up to the end of their content.

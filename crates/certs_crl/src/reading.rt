@@ -1,12 +1,13 @@
 //! What is signed of a revocation list, read (RFC 5280 5.1.2, RFC 6487 5).
 
-ghost use Rattle.std.specs.Prelude.{◌≡◌, OnErr, true};
+ghost use Rattle.std.specs.Prelude.{◌≡◌, IfOk, OnErr, true};
 ghost use Rattle.certs_crl.specs.bcder_content.Exact.{ReadsAs};
 ghost use Rattle.certs_crl.specs.bcder_content.Here.{here};
 ghost use Rattle.certs_crl.specs.bcder_content.InMode.{ReadsFields};
 ghost use Rattle.certs_crl.specs.Fields.{as_list};
-ghost use Rattle.certs_crl.specs.Reading.{Finishes, IsRead, IsReadBody, IsTail, read_fields, tail_fields};
-ghost use Rattle.certs_x509.specs.certs_extension.CrlText.{IsTbsList, entries};
+ghost use Rattle.certs_crl.specs.Reading.{Finishes, IsRead, IsReadBody, IsTail, SpellsRead, SpellsReadBody, read_fields, tail_fields};
+ghost use Rattle.certs_x509.specs.Took.{TookOctets};
+ghost use Rattle.certs_x509.specs.certs_extension.CrlText.{IsTbsList, SpellsTbsList, entries};
 
 use crate::extensions::{Pair, said_by, take_extensions};
 use crate::tbs::TbsCertList;
@@ -45,8 +46,10 @@ fn take_fields<S: Source>(
     alloc: Global,
     cons: &mut Constructed<S>,
 ) -> Result<Listed, DecodeError<S::Error>>
-    ensures { ReadsFields read_fields IsReadBody
+    ensures reads { ReadsFields read_fields IsReadBody
         (here S.rest cons.old) result (here S.rest cons.new) }
+    ensures octets { IfOk result (λ l. TookOctets read_fields SpellsReadBody
+        (here S.rest cons.old) l (here S.rest cons.new)) }
 {
     let version = cons.skip_u8_if(VERSION)?;
     let signature = RpkiSignatureAlgorithm::x509_take_from(cons)?;
@@ -64,12 +67,16 @@ fn take_listed<S: Source>(
 ) -> Result<Listed, DecodeError<S::Error>>
     ensures reads { ReadsAs read_fields (IsRead (here S.rest cons.old).mode)
         (here S.rest cons.old) result (here S.rest cons.new) }
+    ensures octets { IfOk result (λ l. TookOctets read_fields SpellsRead
+        (here S.rest cons.old) l (here S.rest cons.new)) }
     ensures failed { OnErr result ((here S.rest cons.new).failed ≡ true) }
 {
     cons.take_sequence(
         |cons|
-            ensures { ReadsFields read_fields IsReadBody
+            ensures reads { ReadsFields read_fields IsReadBody
                 (here S.rest cons.old) result (here S.rest cons.new) }
+            ensures octets { IfOk result (λ l. TookOctets read_fields SpellsReadBody
+                (here S.rest cons.old) l (here S.rest cons.new)) }
         { take_fields(alloc, cons) },
     )
 }
@@ -108,13 +115,15 @@ fn finished(
 
 impl TbsCertList<RevokedCertificates> {
     /// What is signed of a revocation list, where it is next: its fields in their order, and its two extensions in either
-    /// order (RFC 5280 5.1.2, RFC 6487 5).
+    /// order (RFC 5280 5.1.2, RFC 6487 5). The issuer's octets are those that stand there.
     pub fn take_from<S: Source>(
         alloc: Global,
         cons: &mut Constructed<S>,
     ) -> Result<TbsCertList<RevokedCertificates>, DecodeError<S::Error>>
         ensures reads { ReadsAs as_list (IsTbsList (here S.rest cons.old).mode)
             (here S.rest cons.old) result (here S.rest cons.new) }
+        ensures octets { IfOk result (λ t. TookOctets as_list SpellsTbsList
+            (here S.rest cons.old) t (here S.rest cons.new)) }
         ensures failed { OnErr result ((here S.rest cons.new).failed ≡ true) }
     {
         let listed = take_listed(alloc, cons)?;

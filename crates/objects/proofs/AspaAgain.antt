@@ -13,8 +13,8 @@ use Rattle.objects.specs.objects_payload.Aspas.{Aspa, IsAspa, IsLawful}
 use Rattle.objects.specs.objects_payload.Contents.{IsVersion}
 use Rattle.objects.specs.resources_asn.Encodings.{IsAsId}
 use Rattle.certs.specs.Fields.{version}
-use Rattle.objects.specs.objects_written.Outputs.{each, inside}
-use Rattle.objects_written.proofs.Words.{inside_of, last_of, spelled_of, then_of}
+use Rattle.objects.specs.objects_contents.Outputs.{each, inside}
+use Rattle.objects_contents.proofs.Words.{inside_of, last_of, spelled_of, then_of}
 use Rattle.objects.specs.Written.{as_id, aspa}
 
 -- The version.

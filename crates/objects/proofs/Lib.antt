@@ -1,14 +1,8 @@
 pub mod Alone
 pub mod AspaAgain
-pub mod Kept
-pub mod Made
 pub mod ManifestAgain
 pub mod OfFamily
 pub mod OneChecklist
 pub mod Refused
 pub mod RoaAgain
 pub mod SignedAgain
-pub mod Standing
-pub mod Texts
-pub mod Trees
-pub mod Writing

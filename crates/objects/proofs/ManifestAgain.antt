@@ -7,7 +7,7 @@ use Rattle.objects.specs.certs_basics.HandedIn.{Digests}
 use Rattle.objects.specs.certs_basics.Keys.{KeyValue}
 use Rattle.objects.specs.objects_payload.Identifiers as id
 use Rattle.objects.specs.objects_payload.Manifests.{IsManifest, Manifest, ManifestText}
-use Rattle.objects.specs.objects_written.Manifests.{AreFileNames, IsManifestNumber, manifest}
+use Rattle.objects.specs.objects_contents.Manifests.{AreFileNames, IsManifestNumber, manifest}
 use Rattle.objects.specs.resources_chain.Claims.{Choice}
 use Rattle.objects.specs.resources_chain.declared.choice.ResourcesChoice.TheVariants.{Inherit, Missing}
 use Rattle.objects_written.specs.Builders.{BuilderValue, IsBuilt, IsComplete, IsSigned, KindIsRead, built_object}

@@ -7,7 +7,7 @@ use Rattle.objects.specs.certs_basics.HandedIn.{Digests}
 use Rattle.objects.specs.certs_basics.Keys.{KeyValue}
 use Rattle.objects.specs.objects_payload.Identifiers as id
 use Rattle.objects.specs.objects_payload.Roas.{IsRoa, Roa, RoaAddress, RoaText}
-use Rattle.objects.specs.objects_written.Roas.{AreOfFamilies, HasAddress, roa}
+use Rattle.objects.specs.objects_contents.Roas.{AreOfFamilies, HasAddress, roa}
 use Rattle.objects.specs.resources_chain.Claims.{Choice}
 use Rattle.objects.specs.resources_chain.Sets.{Run}
 use Rattle.objects.specs.resources_chain.declared.choice.ResourcesChoice.TheVariants.{Missing}

@@ -4,9 +4,9 @@ use Rattle.objects.specs.bcder_tree.declared.mode.Mode.TheVariants.{Der}
 use Rattle.objects.specs.certs_basics.HandedIn.{Digests}
 use Rattle.objects.specs.objects_payload.Identifiers as id
 use Rattle.objects.specs.objects_payload.Manifests.{Manifest}
-use Rattle.objects.specs.objects_written.Manifests.{IsManifestNumber, manifest}
+use Rattle.objects.specs.objects_contents.Manifests.{IsManifestNumber, manifest}
 use Rattle.objects.specs.objects_payload.Roas.{Roa, RoaAddress}
-use Rattle.objects.specs.objects_written.Roas.{roa}
+use Rattle.objects.specs.objects_contents.Roas.{roa}
 use Rattle.objects.specs.resources_chain.Choices.{IsChoiceOf}
 use Rattle.objects.specs.resources_chain.Claims.{Choice}
 use Rattle.objects.specs.resources_chain.Sets.{Run}

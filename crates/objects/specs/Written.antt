@@ -2,9 +2,9 @@
 use Rattle.std.specs.Prelude.{ℕ, List}
 use Rattle.objects.specs.bcder_tree.Tags.{context, sequence_tag}
 use Rattle.objects.specs.objects_payload.Aspas.{Aspa}
-use Rattle.objects.specs.objects_written.Outputs.{Output, beside, each, inside}
+use Rattle.objects.specs.objects_contents.Outputs.{Output, beside, each, inside}
 use Rattle.certs.specs.Fields.{version}
-pub use Rattle.objects.specs.objects_written.Roas.{as_id}
+pub use Rattle.objects.specs.objects_contents.Roas.{as_id}
 
 -- ASProviderAttestation ::= SEQUENCE { version [0] INTEGER DEFAULT 0, customerASID ASID, providers SEQUENCE (SIZE(1..MAX)) OF
 -- ASID }: the version is 1, so it is written

@@ -1,8 +1,8 @@
 //! Signed objects of the RPKI (RFC 6488): manifests (RFC 9286), route origin attestations (RFC 9582), provider
-//! attestations, signed checklists (RFC 9323), and trust anchor locators (RFC 8630).
+//! attestations, signed checklists (RFC 9323), resource tagged attestations, and trust anchor locators (RFC 8630).
 //!
-//! This is a face: a port of `rpki::repository::sigobj`, `manifest`, `roa`, `aspa`, `rsc` and `tal` of the Rust crate `rpki`
-//! 0.20.1 in which each call is proved to meet its contract. An object is read exactly where octets spell one, in DER where
+//! This is a face: a port of `rpki::repository::sigobj`, `manifest`, `roa`, `aspa`, `rsc`, `rta` and `tal` of the Rust crate
+//! `rpki` 0.20.1 in which each call is proved to meet its contract. An object is read exactly where octets spell one, in DER where
 //! it is strict and in BER where it isn't; it is accepted exactly where a written conjunction holds. The `specs/` of
 //! each crate have the definitions that its contracts cite.
 //!
@@ -13,8 +13,10 @@
 //! | [`roa`] | route origin attestations, their addresses and builders |
 //! | [`aspa`] | provider attestations, and their builder |
 //! | [`rsc`] | signed checklists |
+//! | [`rta`] | resource tagged attestations, their validation and builders |
 //! | [`tal`] | trust anchor locators |
 //! | [`laws`] | what follows for objects and contents, as functions that do nothing |
+//! | [`relaxed`] | of these, that what is read strictly is read relaxed, with the same fields |
 //!
 //! A route origin attestation is read and processed like this:
 //!
@@ -35,14 +37,15 @@
 //! Each part's page has the rest.
 #![tactic(auto)]
 
-mod again;
 pub mod aspa;
 mod attested;
 mod issued;
 pub mod laws;
 pub mod manifest;
+pub mod relaxed;
 pub mod roa;
 pub mod rsc;
+pub mod rta;
 pub mod sigobj;
 pub mod tal;
 
@@ -51,5 +54,6 @@ pub use manifest::Manifest;
 pub use objects_valid::kinds;
 pub use roa::Roa;
 pub use rsc::Rsc;
+pub use rta::Rta;
 pub use sigobj::SignedObject;
 pub use tal::Tal;

@@ -17,3 +17,4 @@ pub mod process;
 
 pub use checklist::{CheckListIter, FileNameAndHash, ResourceSignedChecklist};
 pub use object::Rsc;
+pub use objects_valid::StatedResources;

@@ -31,7 +31,7 @@ joins p q r = record {
 pub nothing : {m : Mode} {text : List ℕ} {x : Unit {0}} → NoOctets text x → InOrder m End text x
 nothing p = record { trees = none; is = record { ended = refl }; spelled = p.none }
 
-keeps : {A : Type 0} {m : Mode} {Q : Tree → A → Type 0} {P : List ℕ → A → Type 0} {text : List ℕ} {x : List ℕ × A}
+pub keeps : {A : Type 0} {m : Mode} {Q : Tree → A → Type 0} {P : List ℕ → A → Type 0} {text : List ℕ} {x : List ℕ × A}
     → (p : WithOctets P text x) → SpellsOf m Q text x.1 → SpellsOf m (Kept m Q) text x
 keeps {m = m} p q = record {
   tree = q.tree;
@@ -39,7 +39,7 @@ keeps {m = m} p q = record {
   spelled = q.spelled;
 }
 
-named : {m : Mode} {text : List ℕ} {x : CapturedValue} → SpellsName m text x → SpellsOf m (IsKeptName m) text x
+pub named : {m : Mode} {text : List ℕ} {x : CapturedValue} → SpellsName m text x → SpellsOf m (IsKeptName m) text x
 named {m} p = record {
   tree = p.is.tree;
   is = record {

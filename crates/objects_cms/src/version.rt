@@ -1,6 +1,6 @@
 //! Versions of contents that have a default (RFC 9286 4.2, RFC 9323 4).
 
-ghost use Rattle.std.specs.Prelude.{◌≢◌, IfErr};
+ghost use Rattle.std.specs.Prelude.{◌≡◌, ◌≢◌, IfErr, OnErr, true};
 ghost use Rattle.objects_cms.specs.bcder_tree.Tags.{context};
 ghost use Rattle.objects_cms.specs.bcder_source.declared.error.DecodeError.TheVariants.{Memory};
 ghost use Rattle.objects_cms.specs.bcder_content.Exact.{ReadsOptAs};
@@ -34,6 +34,7 @@ pub fn take_opt_version<S: Source>(
 ) -> Result<Option<()>, DecodeError<S::Error>>
     ensures reads { ReadsOptAs alone (context 0) (IsVersion version)
         (here S.rest cons.old) result (here S.rest cons.new) }
+    ensures failed { OnErr result ((here S.rest cons.new).failed ≡ true) }
     ensures no_memory { IfErr result (λ e. e ≢ Memory) }
 {
     cons.take_opt_constructed_if(

@@ -17,6 +17,11 @@ pub mod AddressLemmas
 pub mod FamilyLemmas
 pub mod ContentLemmas
 pub mod Steps
+mod RelaxedForms
+mod RelaxedValues
+mod RelaxedCerts
+pub mod RelaxedObjects
+pub mod RelaxedInspected
 pub mod of_bcder
 pub mod of_bcder_content
 pub mod of_bcder_octets

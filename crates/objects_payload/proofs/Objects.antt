@@ -1,5 +1,5 @@
 -- Octets are one signed object at most, in DER and in BER, with one content; and more good signatures leave it sound.
-use Rattle.std.proofs.Common.{◌≡◌, inl, inr, ℕ, Bool, List, [], ◌∷◌, ◌++◌, Option, Some, None, refl, sym, ap, ◌∙◌, subst}
+use Rattle.std.proofs.Common.{◌≡◌, inl, inr, ℕ, Bool, List, [], ◌∷◌, ◌++◌, Option, Some, None, refl, sym, ap, ◌∙◌, subst, append_assoc}
 use Rattle.objects_payload.specs.bcder_tree.declared.mode.Mode.{Mode}
 use Rattle.objects_payload.specs.bcder_tree.declared.mode.Mode.TheVariants.{Der}
 use Rattle.objects_payload.specs.bcder_tree.Tags.{context, ia5_string_tag, oid_tag, sequence_tag}
@@ -15,7 +15,7 @@ use Rattle.objects_payload.specs.resources_ip_prefix.Encodings.{IsFamily}
 use Rattle.objects_payload.specs.resources_ip_prefix.Meanings.{address_one, family_one}
 use Rattle.objects_payload.specs.certs_basics.Times.{IsMoment}
 use Rattle.objects_payload.proofs.of_certs_basics.Moments.{one_moment}
-use Rattle.objects_payload.specs.bcder_content.Texts.{ReadsFront}
+use Rattle.objects_payload.specs.bcder_content.Texts.{InFront, ReadsFront}
 use Rattle.objects_payload.specs.certs_basics.Basics.{OptNull}
 use Rattle.objects_payload.specs.certs_basics.HandedIn.{Digests}
 use Rattle.objects_payload.specs.certs_basics.Verdicts.{Verdicts, Within}
@@ -136,10 +136,22 @@ spelled_object_one {m} = record { one = at }
 pub one_object : (strict : Bool) (octets : List ℕ) (o o' : Object) → ObjectText strict octets o → ObjectText strict octets o' → o ≡ o'
 one_object strict = in_front_one spelled_object_one
 
-reads_as_one : {A : Type 0} {kind : List ℕ} {Q : Tree → A → Type 0} → One Q → (strict : Bool) (octets : List ℕ) (o o' : Object) (x x' : A) → ReadsAs kind Q strict octets o x → ReadsAs kind Q strict octets o' x' → (o ≡ o') × (x ≡ x')
+pub reads_as_one : {A : Type 0} {kind : List ℕ} {Q : Tree → A → Type 0} → One Q → (strict : Bool) (octets : List ℕ) (o o' : Object) (x x' : A) → ReadsAs kind Q strict octets o x → ReadsAs kind Q strict octets o' x' → (o ≡ o') × (x ≡ x')
 reads_as_one {Q = Q} one strict octets o o' x x' p q =
     let e = one_object strict octets o o' p.object q.object in
     (e, reads_one one o'.content x x' (subst (λ (z : Object). ReadsFront Q z.content x) e p.content_is) q.content_is)
+
+-- What stands behind it changes nothing.
+pub more_behind : {A : Type 0} {P : List ℕ → A → Type 0} {octets : List ℕ} {x : A} (behind : List ℕ) → InFront P octets x → InFront P (octets ++ behind) x
+more_behind behind p = record {
+  text = p.text;
+  rest = p.rest ++ behind;
+  whole = ap (λ (v : List ℕ). v ++ behind) p.whole ∙ append_assoc p.text p.rest behind;
+  is = p.is;
+}
+
+pub reads_as_behind : {A : Type 0} {kind : List ℕ} {Q : Tree → A → Type 0} (strict : Bool) (octets behind : List ℕ) (o : Object) (x : A) → ReadsAs kind Q strict octets o x → ReadsAs kind Q strict (octets ++ behind) o x
+reads_as_behind strict octets behind o x p = record { object = more_behind behind p.object; type_is = p.type_is; content_is = p.content_is }
 
 -- Contents.
 

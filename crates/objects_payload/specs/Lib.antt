@@ -1,6 +1,7 @@
 pub mod Lines
 pub mod Uris
 pub mod Faults
+pub mod Counts
 pub mod Tals
 pub mod Identifiers
 pub mod SignedAttributes
@@ -22,6 +23,9 @@ pub mod Families
 pub mod RoaContents
 pub mod Friendly
 pub mod Covered
+pub mod Forms
+pub mod Relaxed
+pub mod RelaxedLaws
 -- What stands below, for the crates above.
 pub use Rattle.certs_extension.specs.bcder as bcder
 pub use Rattle.certs_extension.specs.bcder_content as bcder_content

@@ -1,8 +1,9 @@
 -- Trust anchor locators as values, and what reading one answers.
-use Rattle.std.specs.Prelude.{◌≡◌, ℕ, ◌^◌, ◌<◌, ◌≤◌, List, length, Option, Result, Ok, Err, String, Vec}
+use Rattle.std.specs.Prelude.{◌≡◌, ℕ, ◌^◌, ◌<◌, ◌≤◌, ◌⊎◌, List, length, Option, Result, Ok, Err, String, Vec}
 use Rattle.std.specs.declared.alloc.Global.{Global}
 use Rattle.std.specs.Io.KnownBytes.{Consumes, IsAtEnd}
 use Rattle.objects_payload.specs.certs_basics.Keys.{KeyValue}
+use Rattle.objects_payload.specs.Counts.{Counts, one_more}
 use Rattle.objects_payload.specs.Locators.{LocatorText}
 use Rattle.objects_payload.specs.declared.locator.error.ReadError.{ReadError}
 use Rattle.objects_payload.specs.declared.locator.error.ReadError.TheVariants.{Io, UnexpectedEof, BadUri, BadKeyInfoEncoding, BadKeyInfo, Memory}
@@ -59,3 +60,22 @@ ReadsNamed name before after (Err BadKeyInfoEncoding) =
     TellsTal name before after (Err BadKeyInfoEncoding)
 ReadsNamed name before after (Err BadKeyInfo) = TellsTal name before after (Err BadKeyInfo)
 ReadsNamed name before after (Err Memory) = GivesSome before after
+
+-- No call of the reader failed, and it gave 2^32 octets, as far as they are known.
+pub record GivesTooMany (before after : Option (List ℕ)) (failures : Counts) : Type 0 where
+  pub octets : List ℕ
+  pub consumed : Consumes before after octets
+  pub many : length octets ≡ 2 ^ 32
+  pub none_failed : failures.after ≡ failures.before
+
+-- `Io` comes where a call of the reader failed, which its count tells, or of 2^32 octets. Else none failed.
+abbrev pub FailsAtIo : {A : Type 0} → Option (List ℕ) → Option (List ℕ) → Counts
+    → Result A ReadError → Type 0
+FailsAtIo before after failures (Ok x) = failures.after ≡ failures.before
+FailsAtIo before after failures (Err Io) =
+    (failures.after ≡ one_more failures.before) ⊎ GivesTooMany before after failures
+FailsAtIo before after failures (Err UnexpectedEof) = failures.after ≡ failures.before
+FailsAtIo before after failures (Err BadUri) = failures.after ≡ failures.before
+FailsAtIo before after failures (Err BadKeyInfoEncoding) = failures.after ≡ failures.before
+FailsAtIo before after failures (Err BadKeyInfo) = failures.after ≡ failures.before
+FailsAtIo before after failures (Err Memory) = failures.after ≡ failures.before

@@ -1,5 +1,5 @@
--- That a value is one attestation at most, part by part.
-use Rattle.std.proofs.Common.{◌≡◌, ℕ, Bool, List, Result, Ok, Err, refl, sym, subst, ◌∙◌}
+-- That a value, and octets, are one attestation at most, part by part.
+use Rattle.std.proofs.Common.{◌≡◌, ℕ, Bool, List, ◌++◌, Result, Ok, Err, refl, sym, ap, subst, ◌∙◌}
 use Rattle.std.specs.Prelude.{IsErr, IsErrAnd}
 use Rattle.objects_cms.specs.bcder_tree.declared.mode.Mode.{Mode}
 use Rattle.objects_cms.specs.bcder_tree.declared.mode.Mode.TheVariants.{Der}
@@ -12,18 +12,19 @@ use Rattle.objects_cms.specs.bcder_content.Grammar.{One, Tagged}
 use Rattle.objects_cms.specs.bcder_content.Texts.{ReadsFront}
 use Rattle.objects_cms.specs.objects_payload.Identifiers.{IsDigestAlgorithm}
 use Rattle.certs_cert.proofs.of_certs_key.Identifying.{identifier_tagged}
-use Rattle.objects_cms.proofs.of_bcder_content.Fronts.{front_lacks, front_reads}
+use Rattle.objects_cms.proofs.of_bcder_content.Fronts.{front_lacks, front_reads, in_front_one, spells_one}
 use Rattle.objects_cms.proofs.of_bcder_content.Keeping.{same_refusal}
 use Rattle.objects_cms.proofs.of_bcder_content.Simple.{unit_one}
 use Rattle.objects_cms.proofs.of_bcder_content.Taking.{weaker}
 use Rattle.objects_cms.proofs.of_bcder_content.Unique.{as_one, end_one, inside_one, inside_tagged, many_one, octets_one, opt_one, then_one}
 use Rattle.objects_cms.proofs.of_certs_basics.Values.{key_identifier_one, string_one}
+use Rattle.objects_cms.proofs.of_objects_payload.Objects.{more_behind}
 use Rattle.objects_valid.proofs.Parts.{stated_one}
 use Rattle.objects_valid.specs.declared.stated.AsForm.TheVariants.{BlocksAlone}
 use Rattle.objects_rta.specs.MultiText.{Multi, MultiText}
-use Rattle.objects_rta.specs.Attestations.{Attestation, AttestationText, IsAttestation, IsSubjectKey, tagged_attestation}
+use Rattle.objects_rta.specs.Attestations.{Attestation, AttestationText, IsAttestation, IsSubjectKey, SaysAttestation, tagged_attestation}
 use Rattle.objects_rta.specs.AttestationParts.{DecodesAttestation, DecodesTyped, IsTyped, RtaValue}
-use Rattle.objects_rta.proofs.Multi.{one_content}
+use Rattle.objects_rta.proofs.Multi.{one_object}
 
 -- An identifier has the tag of an OCTET STRING.
 pub key_tagged : (m : Mode) → Tagged octet_string_tag (IsSubjectKey m)
@@ -42,7 +43,7 @@ attestation_one m =
 -- The octets are an object of another type of content.
 pub other_type : (strict : Bool) {octets : List ℕ} {o : Multi} → MultiText strict octets o → (o.content_type ≡ tagged_attestation → ⊥)
     → (z : Multi) → MultiText strict octets z → z.content_type ≡ tagged_attestation → ⊥
-other_type strict {octets} {o} p differ z q e = differ ((one_content strict octets o z p q).0 ∙ e)
+other_type strict {octets} {o} p differ z q e = differ (ap (λ (y : Multi). y.content_type) (one_object strict octets o z p q) ∙ e)
 
 -- No object is there, so none of that type of content; and none of that type is there, so no attestation.
 pub typed_stop : {E : Type 0} (strict : Bool) (octets : List ℕ) (r : Result (Multi × List ℕ) (DecodeError E)) (e : DecodeError E)
@@ -77,5 +78,21 @@ no_content strict {octets} {content} {o} p e told same lacks = same_refusal _ e 
   where
     none : ((t : Tree) (x : Attestation) (rest : List ℕ) → IsAttestation Der t x → Front Der content t rest → ⊥) → (z : Multi) (x : Attestation) → AttestationText strict octets z x → ⊥
     none lacking z x q =
-        let is = p.content_is ∙ (one_content strict octets o z p.object q.object).1 in
+        let is = p.content_is ∙ ap (λ (y : Multi). y.content) (one_object strict octets o z p.object q.object) in
         front_lacks lacking x (subst (λ (y : List ℕ). ReadsFront (IsAttestation Der) y x) (sym is) q.content_is)
+
+-- What an attestation says is what its signed octets say.
+pub says_it : {strict : Bool} {octets : List ℕ} {o : Multi} {x : Attestation} → AttestationText strict octets o x → SaysAttestation o x
+says_it p = record { type_is = p.type_is; content_is = p.content_is }
+
+-- Octets are one attestation at most.
+pub one_text : (strict : Bool) (octets : List ℕ) (o p : Multi) (x y : Attestation) → AttestationText strict octets o x → AttestationText strict octets p y
+    → (o ≡ p) × (x ≡ y)
+one_text strict octets o p x y a b =
+    let e = one_object strict octets o p a.object b.object in
+    let c = subst (λ (v : List ℕ). ReadsFront (IsAttestation Der) v x) (ap (λ (z : Multi). z.content) e) a.content_is in
+    (e, in_front_one (spells_one (attestation_one Der)) p.content x y c b.content_is)
+
+-- What stands behind it changes nothing.
+pub behind_text : (strict : Bool) (octets behind : List ℕ) (o : Multi) (x : Attestation) → AttestationText strict octets o x → AttestationText strict (octets ++ behind) o x
+behind_text strict octets behind o x p = record { object = more_behind behind p.object; type_is = p.type_is; content_is = p.content_is }

@@ -1,8 +1,6 @@
 pub mod Repeated
-mod ListTexts
 mod Ones
 mod MultiTrees
-mod Relisting
 mod Multi
 mod Checking
 pub mod of_bcder_content

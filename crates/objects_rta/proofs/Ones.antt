@@ -3,15 +3,13 @@ use Rattle.std.proofs.Common.{◌≡◌, ℕ, Bool, true, false, List, [], ◌�
 use Rattle.std.proofs.lemmas.List.{append_cancel_left}
 use Rattle.objects_cms.specs.bcder_tree.declared.mode.Mode.{Mode}
 use Rattle.objects_cms.specs.bcder_tree.Tags.{TagValue}
-use Rattle.objects_cms.specs.bcder_tree.Tree.{SpellsAll, Tree, Trees, more, none}
+use Rattle.objects_cms.specs.bcder_tree.Tree.{Tree, Trees, more, none}
 use Rattle.objects_cms.specs.bcder_content.Contents.{tag_of}
 use Rattle.objects_cms.specs.bcder_content.Grammar.{Many, One, OneAll}
 use Rattle.objects_cms.specs.bcder_content.Texts.{InOrder, Joins, SpellsOf, Wraps}
 use Rattle.objects_cms.proofs.of_bcder_content.Fronts.{OneBefore, OneFront, joins_one, order_one, spells_one}
-use Rattle.objects_cms.proofs.of_bcder_content.Unique.{rest_one}
 use Rattle.objects_cms.proofs.Spelled.{wraps}
-use Rattle.objects_rta.specs.Several.{Perhaps, PerhapsCases, RepeatsCases, Several, SomeOf}
-use Rattle.objects_rta.specs.Carried.{AnyOctets, AreValues}
+use Rattle.objects_rta.specs.Several.{Perhaps, PerhapsCases, Repeats, RepeatsCases, Several, SomeOf}
 
 -- Octets of P are those of a tree of Q, with the same meaning.
 pub record Shows {A : Type 0} (m : Mode) (P : List ℕ → A → Type 0) (Q : Tree → A → Type 0) : Type 0 where
@@ -29,6 +27,10 @@ repeats_tree s text (x ∷ xs) c =
       is = record { cases = (a.tree, r.trees, refl, a.is, r.is.cases) };
       spelled = (c.0, c.1, a.spelled, r.spelled, c.2);
     }
+
+pub all_tree : {A : Type 0} {m : Mode} {P : List ℕ → A → Type 0} {Q : Tree → A → Type 0} → Shows m P Q
+    → {text : List ℕ} {xs : List A} → Repeats P text xs → InOrder m (Many Q) text xs
+all_tree s {text} {xs} p = repeats_tree s text xs p.cases
 
 pub several_tree : {A : Type 0} {m : Mode} {P : List ℕ → A → Type 0} {Q : Tree → A → Type 0} → Shows m P Q
     → {text : List ℕ} {xs : List A} → Several P text xs → InOrder m (SomeOf Q) text xs
@@ -72,27 +74,15 @@ repeats_same {A} {P = P} o s text (x ∷ xs) (y ∷ ys) p q =
     let rest : p.1 ≡ q.1 = append_cancel_left q.0 p.1 q.1 (ap (λ (z : List ℕ). z ++ p.1) (sym f.0) ∙ w) in
     ap (λ (z : A). z ∷ xs) f.1 ∙ ap (λ (zs : List A). y ∷ zs) (repeats_same o s q.1 xs ys (subst (λ (t : List ℕ). RepeatsCases P t xs) rest p.4) q.4)
 
+pub repeats_one : {A : Type 0} {m : Mode} {P : List ℕ → A → Type 0} {Q : Tree → A → Type 0} → OneFront P → Shows m P Q → OneBefore (Repeats P)
+repeats_one {P = P} o s = record {
+  one = λ a b u v x y f g p q e.
+      let t = (order_one empty_one).one a b u v (no_items x) (no_items y) f g (repeats_empty s a x p.cases) (repeats_empty s b y q.cases) e in
+      (t.0, repeats_same o s b x y (subst (λ (z : List ℕ). RepeatsCases P z x) t.0 p.cases) q.cases);
+}
+
 pub several_one : {A : Type 0} {m : Mode} {P : List ℕ → A → Type 0} {Q : Tree → A → Type 0} → OneFront P → Shows m P Q → OneBefore (Several P)
-several_one {P = P} o s = record {
-  one = λ a b u v x y f g p q e.
-      let t = (order_one empty_one).one a b u v (no_items x) (no_items y) f g (repeats_empty s a x p.are.cases) (repeats_empty s b y q.are.cases) e in
-      (t.0, repeats_same o s b x y (subst (λ (z : List ℕ). RepeatsCases P z x) t.0 p.are.cases) q.are.cases);
-}
-
--- Any values, by their octets.
-pub any_one : {m : Mode} → OneBefore (AnyOctets m)
-any_one = record {
-  one = λ a b u v x y f g p q e.
-      let t = (order_one rest_one).one a b u v tt tt f g (record { trees = p.trees; is = record { any = tt }; spelled = p.spelled }) (record { trees = q.trees; is = record { any = tt }; spelled = q.spelled }) e in
-      (t.0, p.same ∙ t.0 ∙ sym q.same);
-}
-
-pub any_tree : {m : Mode} {text octets : List ℕ} → AnyOctets m text octets → InOrder m (AreValues m) text octets
-any_tree {m} p = record {
-  trees = p.trees;
-  is = record { x = tt; is = record { any = tt }; spelled = subst (λ (z : List ℕ). SpellsAll m p.trees z) (sym p.same) p.spelled };
-  spelled = p.spelled;
-}
+several_one o s = record { one = λ a b u v x y f g p q e. (repeats_one o s).one a b u v x y f g p.are q.are e }
 
 -- A value has one tag.
 pub record TagIs (t : Tree) (tag : TagValue) : Type 0 where

@@ -24,6 +24,7 @@ use Rattle.objects_cms.specs.certs_x509.Took.{TookOctets}
 use Rattle.certs_cert.proofs.Joined.{Read, as_read, read_as}
 use Rattle.certs_cert.proofs.of_certs_x509.Octets.{EachTook, inside_took}
 use Rattle.objects_cms.specs.certs_extension.CertText.{IsCert}
+use Rattle.objects_cms.specs.certs_extension.CrlText.{IsCrl}
 use Rattle.objects_cms.specs.Signer.{IsSigner}
 use Rattle.objects_rta.specs.Several.{Perhaps, Repeats, RepeatsCases, Several, SomeOf}
 
@@ -156,3 +157,7 @@ signer_tagged m = record { tagged = λ t x p. ap tag_of p.whole }
 -- A certificate is a SEQUENCE.
 pub cert_tagged : (m : Mode) → Tagged sequence_tag (IsCert m)
 cert_tagged m = record { tagged = λ t x p. ap tag_of p.is.whole }
+
+-- A list is a SEQUENCE.
+pub crl_tagged : (m : Mode) → Tagged sequence_tag (IsCrl m)
+crl_tagged m = record { tagged = λ t x p. ap tag_of p.is.is.whole }

@@ -59,3 +59,14 @@ pub record AttestationText (strict : Bool) (octets : List ℕ) (o : Multi) (x : 
   pub object : MultiText strict octets o
   pub type_is : o.content_type ≡ tagged_attestation
   pub content_is : ReadsFront (IsAttestation Der) o.content x
+
+-- The content of the signed object is of the type of attestations, and its octets begin with this one in DER.
+pub record SaysAttestation (o : Multi) (x : Attestation) : Type 0 where
+  pub type_is : o.content_type ≡ tagged_attestation
+  pub content_is : ReadsFront (IsAttestation Der) o.content x
+
+-- Some value says the attestation, in some mode.
+pub record IsSaid (x : Attestation) : Type 0 where
+  pub mode : Mode
+  pub tree : Tree
+  pub is : IsAttestation mode tree x

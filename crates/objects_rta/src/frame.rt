@@ -7,14 +7,15 @@ ghost use Rattle.objects_cms.specs.bcder_content.Grammar.{Inside};
 ghost use Rattle.objects_cms.specs.bcder_content.Here.{here};
 ghost use Rattle.objects_cms.specs.bcder_content.InMode.{ReadsFields};
 ghost use Rattle.objects_cms.specs.certs_x509.Took.{TookOctets};
-ghost use Rattle.objects_rta.specs.MultiFrame.{AreCarried, AreCarriedOctets, AreInfo, AreInfoOctets, AreMulti, AreMultiOctets, IsInfo, IsMulti, IsOneMulti, SpellsInner, SpellsOneMulti, SpellsRaw, SpellsRawData, carried_fields, info_fields, multi_fields, one_multi};
+ghost use Rattle.objects_rta.specs.MultiText.{SpellsCarried, SpellsMultiData, SpellsMultiInfo};
+ghost use Rattle.objects_rta.specs.MultiFrame.{AreCarried, AreInfo, AreInfoOctets, AreMulti, AreMultiOctets, IsInfo, IsMulti, IsOneMulti, SpellsInner, SpellsOneMulti, carried_fields, info_fields, multi_fields, one_multi};
 
 use crate::certificates::take_certificates;
-use crate::lists::take_opt_lists;
+use crate::lists::take_opt_crls;
 use crate::signers::take_signers;
-use bcder::Captured;
 use certs_cert::decode::{Constructed, DecodeError, Source};
 use certs_cert::{Cert, DigestAlgorithm, Tag, with_value};
+use certs_crl::Crl;
 use objects_cms::oid::SIGNED_DATA;
 use objects_cms::signed::SignerInfo;
 use objects_cms::signed::content::{Typed, take_content_info};
@@ -23,11 +24,11 @@ use std::alloc::Global;
 // The number that stands for the version of signed data with signers by key identifier (RFC 5652 5.1).
 const VERSION: u8 = 3;
 
-/// What stands behind the content: certificates, the octets of lists where there are any, and signers.
+/// What stands behind the content: certificates, revocation lists where their field is there, and signers.
 #[derive(Drop)]
 pub(crate) struct Carried {
     pub(crate) certs: Vec<Cert>,
-    pub(crate) lists: Option<Captured>,
+    pub(crate) crls: Option<Vec<Crl>>,
     pub(crate) signers: Vec<SignerInfo>,
 }
 
@@ -41,15 +42,15 @@ fn take_carried<S: Source>(
 ) -> Result<Carried, DecodeError<S::Error>>
     ensures reads { ReadsFields carried_fields AreCarried
         (here S.rest cons.old) result (here S.rest cons.new) }
-    ensures octets { IfOk result (λ c. TookOctets carried_fields AreCarriedOctets
+    ensures octets { IfOk result (λ c. TookOctets carried_fields SpellsCarried
         (here S.rest cons.old) c (here S.rest cons.new)) }
 {
     let certs = take_certificates(alloc, cons)?;
-    let (certs, lists) = with_value(certs, take_opt_lists(alloc, cons))?;
-    let (both, signers) = with_value((certs, lists), take_signers(alloc, cons))?;
+    let (certs, crls) = with_value(certs, take_opt_crls(alloc, cons))?;
+    let (both, signers) = with_value((certs, crls), take_signers(alloc, cons))?;
     Ok(Carried {
         certs: both.0,
-        lists: both.1,
+        crls: both.1,
         signers,
     })
 }
@@ -78,7 +79,7 @@ fn take_signed_data<S: Source>(
 ) -> Result<Parts, DecodeError<S::Error>>
     ensures reads { ReadsAs multi_fields (IsMulti (here S.rest cons.old).mode)
         (here S.rest cons.old) result (here S.rest cons.new) }
-    ensures octets { IfOk result (λ p. TookOctets multi_fields SpellsRawData
+    ensures octets { IfOk result (λ p. TookOctets multi_fields SpellsMultiData
         (here S.rest cons.old) p (here S.rest cons.new)) }
 {
     cons.take_sequence(
@@ -149,7 +150,7 @@ pub(crate) fn take_frame<S: Source>(
 ) -> Result<Parts, DecodeError<S::Error>>
     ensures reads { ReadsAs info_fields (IsInfo (here S.rest cons.old).mode)
         (here S.rest cons.old) result (here S.rest cons.new) }
-    ensures octets { IfOk result (λ p. TookOctets info_fields SpellsRaw
+    ensures octets { IfOk result (λ p. TookOctets info_fields SpellsMultiInfo
         (here S.rest cons.old) p (here S.rest cons.new)) }
     ensures failed { OnErr result ((here S.rest cons.new).failed ≡ true) }
 {

@@ -5,8 +5,8 @@
 //! the very octets that are signed are kept; [`ResourceTaggedAttestation`] is what the content of an attestation says, and
 //! [`Rta`] both. Reading verifies nothing.
 //!
-//! What differs from the Rust crate: what takes memory is given an allocator, and lack of memory is an error of its own; lists
-//! that are carried are DER in each mode; the parts of an object are lent by name.
+//! What differs from the Rust crate: what takes memory is given an allocator, and lack of memory is an error of its own; the
+//! parts of an object are lent by name.
 #![tactic(auto)]
 
 pub mod attestation;

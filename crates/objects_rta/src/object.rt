@@ -4,19 +4,21 @@
 //! or more, revocation lists, any number, and signers, one or more. Reading it verifies nothing, and whose certificate a
 //! signer has isn't looked at.
 
-ghost use Rattle.std.specs.Prelude.{◌≡◌, ◌↔◌, All, IsTrue, OnErr, OnOk, map, true};
+ghost use Rattle.std.specs.Prelude.{◌≡◌, ◌≢◌, ◌↔◌, All, IfErr, IfOk, IsTrue, OnErr, OnOk, map, true};
+ghost use Rattle.std.specs.Option.{option_map};
 ghost use Rattle.objects_cms.specs.bcder_content.Captures.{rest_of};
 ghost use Rattle.objects_cms.specs.bcder_content.Here.{here};
 ghost use Rattle.objects_cms.specs.bcder_content.ClosureReads.{Decoded, fresh};
+ghost use Rattle.objects_cms.specs.bcder_source.declared.error.DecodeError.TheVariants.{Memory};
 ghost use Rattle.objects_cms.specs.bcder_tree.declared.mode.Mode.TheVariants.{Der};
 ghost use Rattle.objects_cms.specs.objects_payload.ObjectText.{signer_of};
 ghost use Rattle.objects_cms.specs.Decoded.{ReadsOctets};
 ghost use Rattle.objects_cms.specs.Signer.{signer_fields};
-ghost use Rattle.objects_rta.specs.MultiFrame.{DecodesMulti, MakesMulti, SignsAll, multi_with};
-ghost use Rattle.objects_rta.specs.MultiText.{SignsType, SpellsMulti};
+ghost use Rattle.objects_rta.specs.Carried.{items_of};
+ghost use Rattle.objects_rta.specs.MultiFrame.{DecodesMulti, SignsAll, multi_fields};
+ghost use Rattle.objects_rta.specs.MultiText.{SignsType, SpellsMulti, lists_of, multi_of};
 
 use crate::frame::{Carried, Parts, take_frame};
-use crate::lists::decode_lists;
 use bcder::string::OctetStringSource;
 use certs_cert::decode::{Constructed, ContentError, Decode, DecodeError, IntoSource, Source};
 use certs_cert::{Cert, Mode, OctetString, Oid};
@@ -83,51 +85,56 @@ fn agree(parts: &Parts) -> bool
     all_sign(parts.1.signers.as_slice(), &parts.0.0)
 }
 
+// The lists; none where their field is absent.
+fn listed(alloc: Global, crls: Option<Vec<Crl>>) -> Vec<Crl>
+    ensures { result.items ≡ lists_of (option_map items_of crls) }
+{
+    match crls {
+        Some(crls) => crls,
+        None => Vec::new(alloc),
+    }
+}
+
 impl MultiSignedObject {
-    // The object of what was read of it, and of the lists.
-    fn from_parts(parts: Parts, crls: Vec<Crl>) -> MultiSignedObject
-        ensures { result ≡ multi_with parts crls.items }
+    // The object of what was read of it.
+    fn from_parts(alloc: Global, parts: Parts) -> MultiSignedObject
+        ensures { result ≡ multi_of (multi_fields parts) }
     {
         let (typed, carried) = parts;
         let (content_type, content) = typed;
         let Carried {
             certs,
-            lists,
+            crls,
             signers,
         } = carried;
-        drop(lists);
         MultiSignedObject {
             content_type,
             content,
             certs,
-            crls,
+            crls: listed(alloc, crls),
             signers,
         }
     }
 
-    // The object of the parts, where they agree; else the content is failed.
+    // The object of the parts, where they agree; else the content is failed. That takes no memory.
     fn agreed<S: Source>(
         alloc: Global,
         parts: Parts,
         cons: &mut Constructed<S>,
     ) -> Result<MultiSignedObject, DecodeError<S::Error>>
-        ensures makes { MakesMulti parts result }
+        ensures gives { IfOk result
+            (λ o. SignsAll parts × (o ≡ multi_of (multi_fields parts))) }
         ensures same { OnOk result (here S.rest cons.new ≡ here S.rest cons.old) }
+        ensures refused { OnErr result (SignsAll parts → ⊥) }
         ensures failed { OnErr result ((here S.rest cons.new).failed ≡ true) }
+        ensures no_memory { IfErr result (λ e. e ≢ Memory) }
     {
         if !agree(&parts) {
             drop(parts);
             cons.fail();
             return Err((*cons).content_err(ContentError::from_static("another type of content")));
         }
-        match decode_lists(alloc, &parts.1.lists) {
-            Ok(crls) => Ok(MultiSignedObject::from_parts(parts, crls)),
-            Err(error) => {
-                drop(parts);
-                cons.fail();
-                Err(error.convert())
-            }
-        }
+        Ok(MultiSignedObject::from_parts(alloc, parts))
     }
 
     /// The object of a content of that type, with these certificates, revocation lists and signers, in their order: for
@@ -175,8 +182,7 @@ impl MultiSignedObject {
     }
 
     /// The signed object that is next, in the mode of the content: by the very octets that stood there, of which those that
-    /// are signed are kept (RFC 5652 3, 5). Each signer's attribute for the content's type has that type. Revocation lists
-    /// are DER in each mode.
+    /// are signed are kept (RFC 5652 3, 5). Each signer's attribute for the content's type has that type.
     pub fn take_from<S: Source>(
         alloc: Global,
         cons: &mut Constructed<S>,

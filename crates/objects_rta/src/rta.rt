@@ -4,7 +4,7 @@
 
 ghost use Rattle.std.specs.Prelude.{◌≡◌, ◌↔◌, IsTrue};
 ghost use Rattle.objects_rta.specs.AttestationParts.{DecodesAttestation, DecodesTyped};
-ghost use Rattle.objects_rta.specs.Attestations.{tagged_attestation};
+ghost use Rattle.objects_rta.specs.Attestations.{SaysAttestation, tagged_attestation};
 
 use crate::attestation::ResourceTaggedAttestation;
 use crate::object::MultiSignedObject;
@@ -14,7 +14,8 @@ use objects_cms::oid::CT_RESOURCE_TAGGED_ATTESTATION;
 use std::alloc::Global;
 use std::marker::Model;
 
-/// A resource tagged attestation: a signed object with several signers, and what its content says. Contracts see both.
+/// A resource tagged attestation: a signed object with several signers, and what its content says, which is always what the
+/// octets say that are signed (`content_is_signed`). Contracts see both.
 #[derive(Drop)]
 pub struct Rta {
     signed: MultiSignedObject,
@@ -23,10 +24,13 @@ pub struct Rta {
 
 impl Model for Rta {
     ghost use Rattle.objects_rta.specs.AttestationParts.{RtaValue};
+    ghost use Rattle.objects_rta.specs.Attestations.{SaysAttestation};
 
     ghost Value = { RtaValue };
 
     ghost view = { λ r. record { signed = r.signed; content = r.content } };
+
+    ghost invariant = { λ r. SaysAttestation r.signed r.content };
 }
 
 // Whether its content is an attestation by its type.
@@ -61,16 +65,17 @@ fn decode_signed<I: IntoSource>(
 }
 
 impl Rta {
-    /// The attestation of a signed object, and of what its content says: for builders. Nothing is tested.
+    /// The attestation of a signed object, and of what its content says: for builders, who know that it says so. Nothing else
+    /// is asked of the object.
     pub fn from_parts(signed: MultiSignedObject, content: ResourceTaggedAttestation) -> Self
+        requires { SaysAttestation signed content }
         ensures { result ≡ record { signed = signed; content = content } }
     {
         Rta { signed, content }
     }
 
     /// The attestation that a source begins with, in DER, or where not `strict` in BER; octets after it stay unread. Its
-    /// content and the revocation lists that it carries are DER in both. Its octets are shared where they stand in one
-    /// piece.
+    /// content is DER in both. Its octets are shared where they stand in one piece.
     pub fn decode<I: IntoSource>(
         alloc: Global,
         source: I,
@@ -80,12 +85,19 @@ impl Rta {
     {
         let (signed, octets) = decode_signed(alloc, source, strict)?;
         match ResourceTaggedAttestation::decode(alloc, octets) {
-            Ok(content) => Ok(Rta { signed, content }),
+            Ok(content) => Ok(Rta::from_parts(signed, content)),
             Err(error) => {
                 drop(signed);
                 Err(error.convert())
             }
         }
+    }
+
+    /// What is said is what the octets say that are signed. This is a law about attestations: nothing is done.
+    pub fn content_is_signed(&self)
+        ensures { SaysAttestation self.now.signed self.now.content }
+    {
+        let _signed = &self.signed;
     }
 
     /// The signed object, with its signers, certificates and revocation lists, and the octets of its content.
@@ -106,6 +118,7 @@ impl Rta {
     pub fn into_parts(self) -> (MultiSignedObject, ResourceTaggedAttestation)
         ensures signed { result.0 ≡ self.signed }
         ensures content { result.1 ≡ self.content }
+        ensures says { SaysAttestation result.0 result.1 }
     {
         (self.signed, self.content)
     }

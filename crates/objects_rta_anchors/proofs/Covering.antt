@@ -130,7 +130,7 @@ each_last P (place ∷ path) last e all = subst P (same (last_from place path) l
     same : (a b : ℕ) → ◌≡◌ {A = List ℕ} (a ∷ []) (b ∷ []) → a ≡ b
     same a b f = cc
 
-keeps_lists : (choice : Choice) (n : ℕ) → (choice ≡ Inherit → ⊥) → Keeps choice n → Lists choice n
+pub keeps_lists : (choice : Choice) (n : ℕ) → (choice ≡ Inherit → ⊥) → Keeps choice n → Lists choice n
 keeps_lists Missing n explicit k = k
 keeps_lists Inherit n explicit k = absurd (explicit refl)
 keeps_lists (Blocks runs) n explicit k = k

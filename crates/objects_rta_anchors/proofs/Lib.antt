@@ -3,5 +3,6 @@ mod Ending
 mod Opening
 mod Keeping
 mod Covering
+mod Lying
 mod Starting
 mod Finishing

@@ -23,9 +23,8 @@ pub record AnchoredValue : Type 0 where
 abbrev pub IsAtLocator : KeyValue → CertValue → Type 0
 IsAtLocator key c = NamesItself c × (encoded c.tbs.key ≡ encoded key)
 
--- It doesn't name itself, claims the authority, and is signed by its key (RFC 6487 4.8.3, 4.8.7).
+-- It claims the authority, and is signed by its key (RFC 6487 4.8.3, 4.8.7).
 pub record IsBelow (good : Verdicts) (ca c : CertValue) : Type 0 where
-  pub other : NamesItself c → ⊥
   pub authority : c.tbs.authority_key_identifier ≡ Some ca.tbs.subject_key_identifier
   pub uri : c.tbs.ca_issuer ≡ None → ⊥
   pub signed : IsSignedBy good ca.tbs.key c.signed

@@ -41,16 +41,12 @@ fn has_signature<V: Verifier>(cert: &Cert, ca: &ResourceCert, verifier: &mut V) 
     cert.signed_data().verify_signature(key, verifier).is_ok()
 }
 
-// Whether the certificate doesn't name itself, claims the authority, and is signed by its key. The verifier is asked once, at
-// most.
+// Whether the certificate claims the authority, and is signed by its key. The verifier is asked once, at most.
 fn is_below<V: Verifier>(cert: &Cert, ca: &ResourceCert, verifier: &mut V) -> bool
     ensures below { IsTrue result ↔ IsBelow (V.says verifier.old) ca.now.holder.cert cert.now }
     ensures same { V.says verifier.new ≡ V.says verifier.old }
     ensures asked { V.count verifier.new ≤ V.count verifier.old + 1 }
 {
-    if cert.tbs().is_self_signed() {
-        return false;
-    }
     if !has_authority(cert, ca) {
         return false;
     }

@@ -23,6 +23,7 @@ mod covered;
 mod covered_as;
 mod ends;
 mod held;
+pub mod laws;
 mod locator;
 pub mod validation;
 

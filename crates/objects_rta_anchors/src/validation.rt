@@ -103,7 +103,7 @@ impl Validation {
 
     /// The attestation, where it is valid at that moment by what it carries; else the first test that it doesn't pass, in the
     /// order of [`RtaTest`](crate::RtaTest). It is let go where it is refused. `strict` refuses UTF8Strings in names.
-    /// `Memory` comes only where a growth of memory was refused, and only of an attestation that passes the tests before.
+    /// `Memory` comes only where a growth of memory was refused, and says nothing of any test: the first takes memory.
     ///
     /// The verifier is asked at most once for each signer, each certificate and each list that is carried.
     pub fn new_at<D: Digester, V: Verifier>(
@@ -281,10 +281,10 @@ impl Validation {
         Ok(())
     }
 
-    /// Whether some path is open and ends with a certificate that doesn't name itself, claims that authority, and is signed by
-    /// its key (RFC 6487 4.8.3, 4.8.7); all such paths are anchored then, with what it holds. On no, and where memory is
-    /// refused, nothing changes; memory is wanted only where such a path was found. The verifier is asked at most once for
-    /// each path.
+    /// Whether some path is open and ends with a certificate that claims that authority, and is signed by its key (RFC 6487
+    /// 4.8.3, 4.8.7), also where it names itself; all such paths are anchored then, with what the authority holds. On no, and
+    /// where memory is refused, nothing changes; memory is wanted only where such a path was found. The verifier is asked at
+    /// most once for each path.
     pub fn supply_ca<V: Verifier>(
         &mut self,
         ca: &ResourceCert,

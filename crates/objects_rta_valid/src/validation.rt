@@ -62,7 +62,7 @@ fn examine<D: Digester, V: Verifier>(
 impl Validation {
     /// The attestation, where it is valid at that moment; else the first test that it doesn't pass, in the order of
     /// [`RtaTest`](crate::RtaTest). It is let go where it is refused. `strict` refuses UTF8Strings in names. `Memory` comes
-    /// only where a growth of memory was refused, and only of an attestation that passes the tests before.
+    /// only where a growth of memory was refused, and says nothing of any test: the first takes memory.
     ///
     /// The verifier is asked at most once for each signer, each certificate and each list that is carried, also where paths
     /// share certificates.

@@ -1,8 +1,9 @@
 -- What is written of the content of an attestation is read again, and what is read is such that it is.
-use Rattle.std.proofs.Common.{◌≡◌, ◌≢◌, ℕ, List, [], ◌∷◌, Option, Some, None, refl, sym, ap, ◌∙◌, subst, arith}
+use Rattle.std.proofs.Common.{◌≡◌, ◌≢◌, ℕ, List, [], ◌∷◌, Option, Some, None, refl, sym, ap, ◌∙◌, subst, arith, append-nil}
 use Rattle.std.specs.Prelude.{All, IfSome}
 use Rattle.std.specs.Option.{option_map}
 use Rattle.std.proofs.lemmas.List.Elements.{All-cons, All-nil}
+use Rattle.objects_written.specs.bcder_tree.declared.mode.Mode.{Mode}
 use Rattle.objects_written.specs.bcder_tree.declared.mode.Mode.TheVariants.{Der}
 use Rattle.objects_written.specs.bcder_tree.Strings.{IsOctetString, octet_string_tag}
 use Rattle.objects_written.specs.bcder_tree.Tags.{TagValue, context, set_tag}
@@ -10,7 +11,7 @@ use Rattle.objects_written.specs.bcder_tree.Tree.{Tree, Trees, none, primitive}
 use Rattle.objects_written.specs.bcder.Kinds.{octets}
 use Rattle.objects_written.specs.bcder_content.Contents.{tag_of}
 use Rattle.objects_written.specs.bcder_content.Grammar.{End, Inside, ManyCases, Opt, OptCases, Then, Without}
-use Rattle.objects_written.specs.bcder_content.Texts.{SpellsOf}
+use Rattle.objects_written.specs.bcder_content.Texts.{ReadsFront, SpellsOf}
 use Rattle.certs_key.proofs.of_bcder_content.Unique.{same_trees}
 use Rattle.objects_written.specs.bcder_values.Forms.{Alone, not_more}
 use Rattle.objects_written.specs.bcder_primitive.Encoded.{joined}
@@ -31,13 +32,13 @@ use Rattle.resources_ip.specs.WrittenFamilies.{both, says_any}
 use Rattle.resources_ip.proofs.BothFamilies.{families_again}
 use Rattle.resources_ip.proofs.Fitting.{families_fit}
 use Rattle.certs.specs.Resources.{said_families}
-use Rattle.objects_written.specs.Outputs.{beside, each, of, perhaps}
+use Rattle.objects_contents.specs.Outputs.{beside, each, of, perhaps}
 use Rattle.objects_written.specs.Frames.{algorithm, sha256}
-use Rattle.objects_written.proofs.Words.{inside_of, last_of, then_of}
+use Rattle.objects_contents.proofs.Words.{inside_of, last_of, then_of}
 use Rattle.objects_rta.specs.objects_valid.Stated.{AreListed, AreParts, AreStated, AreStatedFamilies, IsAsPart, IsStated, Parts, SaysSome, Stated, asn_of, families_of, stated_of}
 use Rattle.objects_rta.specs.objects_valid.declared.stated.AsForm.TheVariants.{BlocksAlone}
 use Rattle.objects_rta.proofs.of_objects_valid.Parts.{own_asn, own_v4, own_v6}
-use Rattle.objects_rta.specs.Attestations.{AreFields, AreSubjectKeys, Attestation, Fields, IsAttestation, IsSubjectKey}
+use Rattle.objects_rta.specs.Attestations.{AreFields, AreSubjectKeys, Attestation, Fields, IsAttestation, IsSaid, IsSubjectKey}
 use Rattle.objects_rta_written.specs.Contents.{AreStatable, IsReadable, StatedParts, attestation, key, listed, numbers, stated, tagged_families, tagged_numbers}
 use Rattle.objects_written.proofs.FrameAgain.{by_trees, string_alone}
 use Rattle.objects_rta_written.proofs.Words.{all_first, all_others}
@@ -218,22 +219,25 @@ content_again a text r = by_trees (attestation a) (content_alone a r) text
 
 -- What was read.
 
-keys_read : (ts : Trees) (ks : List (List ℕ)) → ManyCases (IsSubjectKey Der) ts ks → All IsTwentyLong ks
-keys_read ts [] p = All-nil IsTwentyLong
-keys_read ts (k ∷ ks) p = All-cons IsTwentyLong k ks p.3.meets (keys_read p.1 ks p.4)
+keys_read : (m : Mode) (ts : Trees) (ks : List (List ℕ)) → ManyCases (IsSubjectKey m) ts ks → All IsTwentyLong ks
+keys_read m ts [] p = All-nil IsTwentyLong
+keys_read m ts (k ∷ ks) p = All-cons IsTwentyLong k ks p.3.meets (keys_read m p.1 ks p.4)
 
 abbrev SaysFamilies : Option (FamilyChoices × Unit {0}) → Type 0
 SaysFamilies None = Unit {0}
 SaysFamilies (Some x) = FitsChoice Ipv4 x.0.v4 × FitsChoice Ipv6 x.0.v6 × ¬ ((x.0.v4 ≡ Missing) × (x.0.v6 ≡ Missing))
 
-behind_says : (ts : Trees) (o : Option (FamilyChoices × Unit {0})) → OptCases (context 1) AreAddresses End ts o tt → SaysFamilies o
-behind_says ts None p = tt
-behind_says ts (Some x) p = families_fit Der _ x.0 p.is.is.is.is
+abbrev AreAddressesIn : Mode → Tree → FamilyChoices × Unit {0} → Type 0
+AreAddressesIn m = Inside (context 1) (Then (AreStatedFamilies m) End)
 
-parts_say : (ts : Trees) (asn : Option (List Run × Unit {0})) (o : Option (FamilyChoices × Unit {0})) → OptCases (context 0) IsNumbers AreBehind ts asn (o, tt)
-    → HasMaximal (asn_of asn) × SaysFamilies o
-parts_say ts None o p = (tt, behind_says ts o p.1.cases)
-parts_say ts (Some x) o p = (set_fits _ x.0 p.is.is.is, behind_says p.others o p.rest.cases)
+behind_says : (m : Mode) (ts : Trees) (o : Option (FamilyChoices × Unit {0})) → OptCases (context 1) (AreAddressesIn m) End ts o tt → SaysFamilies o
+behind_says m ts None p = tt
+behind_says m ts (Some x) p = families_fit m _ x.0 p.is.is.is.is
+
+parts_say : (m : Mode) (ts : Trees) (asn : Option (List Run × Unit {0})) (o : Option (FamilyChoices × Unit {0}))
+    → OptCases (context 0) IsNumbers (Opt (context 1) (AreAddressesIn m) End) ts asn (o, tt) → HasMaximal (asn_of asn) × SaysFamilies o
+parts_say m ts None o p = (tt, behind_says m ts o p.1.cases)
+parts_say m ts (Some x) o p = (set_fits _ x.0 p.is.is.is, behind_says m p.others o p.rest.cases)
 
 fits_v4 : (o : Option (FamilyChoices × Unit {0})) → SaysFamilies o → FitsChoice Ipv4 (families_of o).v4
 fits_v4 None s = tt
@@ -254,22 +258,22 @@ no_families (Some x) s e f = absurd (s.2 (e, f))
 abbrev IsStatable : Stated → Type 0
 IsStatable s = (¬ ((s.asn ≡ Missing) × ((s.v4 ≡ Missing) × (s.v6 ≡ Missing)))) × HasMaximal s.asn × FitsChoice Ipv4 s.v4 × FitsChoice Ipv6 s.v6
 
-parts_statable : (ts : Trees) (p : Parts) → AreParts BlocksAlone Der ts p → SaysSome p → IsStatable (stated_of p)
-parts_statable ts p are some =
-    let s = parts_say ts p.0 p.1.0 are.cases in (
+parts_statable : (m : Mode) (ts : Trees) (p : Parts) → AreParts BlocksAlone m ts p → SaysSome p → IsStatable (stated_of p)
+parts_statable m ts p are some =
+    let s = parts_say m ts p.0 p.1.0 are.cases in (
       λ e. some (no_numbers p.0 e.0, no_families p.1.0 s.1 e.1.0 e.1.1),
       s.0,
       fits_v4 p.1.0 s.1,
       fits_v6 p.1.0 s.1,
     )
 
-stated_read : (t : Tree) (s : Stated) → IsStated BlocksAlone Der t s → AreStatable s
-stated_read t s p =
-    let q = subst IsStatable (sym p.is.says) (parts_statable p.values p.is.parts p.is.are p.is.some) in
+stated_read : (m : Mode) (t : Tree) (s : Stated) → IsStated BlocksAlone m t s → AreStatable s
+stated_read m t s p =
+    let q = subst IsStatable (sym p.is.says) (parts_statable m p.values p.is.parts p.is.are p.is.some) in
     record {
-      asn = own_asn BlocksAlone Der t s p;
-      v4 = own_v4 BlocksAlone Der t s p;
-      v6 = own_v6 BlocksAlone Der t s p;
+      asn = own_asn BlocksAlone m t s p;
+      v4 = own_v4 BlocksAlone m t s p;
+      v6 = own_v6 BlocksAlone m t s p;
       some = q.0;
       maximal = q.1;
       fits_v4 = q.2;
@@ -277,15 +281,24 @@ stated_read t s p =
     }
 
 -- The version is passed over, if it is written out.
-abbrev AreKeysOn : Trees → List (List ℕ) × (Stated × (Unit {0} × (List ℕ × Unit {0}))) → Type 0
-AreKeysOn = Then (Inside set_tag (AreSubjectKeys Der)) (Then (IsStated BlocksAlone Der) (Then id.IsDigestAlgorithm (Then (IsOctetString Der) End)))
+abbrev AreKeysOn : Mode → Trees → List (List ℕ) × (Stated × (Unit {0} × (List ℕ × Unit {0}))) → Type 0
+AreKeysOn m = Then (Inside set_tag (AreSubjectKeys m)) (Then (IsStated BlocksAlone m) (Then id.IsDigestAlgorithm (Then (IsOctetString m) End)))
 
-keys_on : (ts : Trees) (v : Option (Unit {0} × Unit {0})) (x : List (List ℕ) × (Stated × (Unit {0} × (List ℕ × Unit {0})))) → OptCases (context 0) (IsVersion 0) AreKeysOn ts v x
+keys_on : (m : Mode) (ts : Trees) (v : Option (Unit {0} × Unit {0})) (x : List (List ℕ) × (Stated × (Unit {0} × (List ℕ × Unit {0})))) → OptCases (context 0) (IsVersion 0) (AreKeysOn m) ts v x
     → (All IsTwentyLong x.0) × AreStatable x.1.0
-keys_on ts None x p = let r = p.1 in (keys_read _ x.0 r.is.is.cases, stated_read _ x.1.0 r.rest.is)
-keys_on ts (Some v) x p = let r = p.rest in (keys_read _ x.0 r.is.is.cases, stated_read _ x.1.0 r.rest.is)
+keys_on m ts None x p = let r = p.1 in (keys_read m _ x.0 r.is.is.cases, stated_read m _ x.1.0 r.rest.is)
+keys_on m ts (Some v) x p = let r = p.rest in (keys_read m _ x.0 r.is.is.cases, stated_read m _ x.1.0 r.rest.is)
 
-pub content_read : (t : Tree) (a : Attestation) → IsAttestation Der t a → IsReadable a
-content_read t a p =
-    let k = keys_on p.is.values p.x.0 p.x.1 p.is.is.cases in
+pub content_read : (m : Mode) (t : Tree) (a : Attestation) → IsAttestation m t a → IsReadable a
+content_read m t a p =
+    let k = keys_on m p.is.values p.x.0 p.x.1 p.is.is.cases in
     subst IsReadable (sym p.means) (record { keys = k.0; resources = k.1 })
+
+-- So what is written of any attestation is read again as it.
+pub said_again : (a : Attestation) (text : List ℕ) → IsSaid a → (attestation a).writes Der text → ReadsFront (IsAttestation Der) text a
+said_again a text s w = record {
+  text = text;
+  rest = [];
+  whole = sym (append-nil text);
+  is = content_again a text (content_read s.mode s.tree a s.is) w;
+}

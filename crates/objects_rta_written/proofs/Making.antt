@@ -7,7 +7,7 @@ use Rattle.objects_written.specs.bcder_tree.Tree.{Tree}
 use Rattle.objects_written.specs.bcder_content.Grammar.{One}
 use Rattle.objects_written.specs.bcder_content.Texts.{SpellsOf}
 use Rattle.objects_written.specs.certs_basics.Basics.{IsTwentyLong}
-use Rattle.objects_written.proofs.Making.{same_front}
+use Rattle.objects_contents.proofs.Making.{same_front}
 use Rattle.certs_key.proofs.of_bcder_tree.Fronts.{whole_front}
 use Rattle.objects_written.specs.bcder_primitive.declared.written.error.EncodeError.{EncodeError}
 use Rattle.objects_written.specs.bcder_primitive.declared.written.error.EncodeError.TheVariants as causes

@@ -3,21 +3,17 @@ use Rattle.std.proofs.Common.{◌≡◌, ◌≢◌, ℕ, List, [], ◌∷◌, Op
 use Rattle.std.specs.Prelude.{All}
 use Rattle.std.proofs.lemmas.List.Elements.{All-cons, All-nil}
 use Rattle.objects_written.specs.bcder_tree.declared.mode.Mode.TheVariants.{Der}
-use Rattle.objects_written.specs.bcder_tree.Tags.{context}
-use Rattle.objects_written.specs.bcder_tree.Tree.{SpellsAll, Trees, more, none}
-use Rattle.objects_written.specs.bcder_content.Grammar.{Many, ManyCases}
-use Rattle.objects_written.specs.bcder_content.Texts.{InOrder, Wraps}
+use Rattle.objects_written.specs.bcder_content.Texts.{InOrder}
 use Rattle.objects_written.specs.bcder.Identifiers.{IsIdentifier}
 use Rattle.objects_written.specs.certs_extension.Cert.{CertValue}
 use Rattle.objects_written.specs.certs_extension.CertText.{SpellsCert}
-use Rattle.objects_written.specs.certs_extension.CrlText.{CrlValue, IsCrl}
-use Rattle.certs_extension.specs.Spellings.{CrlIsSpelled}
+use Rattle.objects_written.specs.certs_extension.CrlText.{CrlValue, SpellsCrl}
 use Rattle.objects_written.specs.objects_payload.ObjectText.{Signer, SignerFields, SpellsSigner, signer_of}
 use Rattle.objects_written.specs.objects_payload.SignedAttributes.{AreAttributes, AttributesValue}
 use Rattle.objects_written.specs.Frames.{signer}
-use Rattle.objects_written.specs.Outputs.{each}
-use Rattle.objects_rta.specs.Several.{Perhaps, PerhapsCases, RepeatsCases, Several}
-use Rattle.objects_rta.specs.Carried.{AreLists}
+use Rattle.objects_contents.specs.Outputs.{each}
+use Rattle.objects_rta.specs.Several.{Perhaps, PerhapsCases, Repeats, RepeatsCases, Several}
+use Rattle.objects_rta.specs.Carried.{SpellsCrls}
 use Rattle.objects_rta.specs.MultiText.{InfoFields, Multi, MultiFields, MultiText, SignsType, SpellsMultiInfo, lists_of, multi_of}
 use Rattle.objects_rta_written.specs.Again.{IsReadable, IsReadableCert, IsReadableCrl, IsReadableSigner, IsSignerInDer, StandsInDer, WritesAgain, said_of, signer_parts, signer_with_null, with_null}
 use Rattle.objects_rta_written.specs.Frames.{cert, crl, lists}
@@ -39,21 +35,9 @@ certs_again cs all some text w = record {
 
 -- Lists.
 
-crls_again : CrlIsSpelled → (cs : List CrlValue) → All IsReadableCrl cs → (text : List ℕ) → (each crl cs).writes Der text → InOrder Der (Many (IsCrl Der)) text cs
-crls_again told [] all text w = record { trees = none; is = record { cases = refl }; spelled = w }
-crls_again told (c ∷ cs) all text w =
-    let one = crl_again told c (all_first IsReadableCrl c cs all) w.first w.is_first in
-    let others = crls_again told cs (all_others IsReadableCrl c cs all) w.second w.is_second in
-    record {
-      trees = more one.tree others.trees;
-      is = record { cases = (one.tree, others.trees, refl, one.is, others.is.cases) };
-      spelled = (w.first, w.second, one.spelled, others.spelled, w.whole);
-    }
-
-are_lists : CrlIsSpelled → (cs : List CrlValue) → All IsReadableCrl cs → (text : List ℕ) → (each crl cs).writes Der text → AreLists Der text cs
-are_lists told cs all text w =
-    let i = crls_again told cs all text w in
-    record { are = i; trees = i.trees; spelled = i.spelled }
+crls_again : (cs : List CrlValue) → All IsReadableCrl cs → (text : List ℕ) → (each crl cs).writes Der text → Repeats (SpellsCrl Der) text cs
+crls_again cs all text w =
+    record { cases = subst (λ (ds : List CrlValue). RepeatsCases (SpellsCrl Der) text ds) (map_itself cs) (repeats_of (SpellsCrl Der) IsReadableCrl crl (λ (c : CrlValue). c) (λ c r o v. crl_again c r o v) cs all text w) }
 
 -- Where there are none, their field is absent.
 abbrev found : List CrlValue → Option (List CrlValue)
@@ -64,9 +48,9 @@ lists_found : (cs : List CrlValue) → lists_of (found cs) ≡ cs
 lists_found [] = refl
 lists_found (c ∷ cs) = refl
 
-lists_again : CrlIsSpelled → (cs : List CrlValue) → All IsReadableCrl cs → (text : List ℕ) → (lists cs).writes Der text → Perhaps (Wraps Der (context 1) (AreLists Der)) text (found cs)
-lists_again told [] all text w = record { cases = w }
-lists_again told (c ∷ cs) all text w = record { cases = wraps_of (AreLists Der) (are_lists told (c ∷ cs) all) text w }
+lists_again : (cs : List CrlValue) → All IsReadableCrl cs → (text : List ℕ) → (lists cs).writes Der text → Perhaps (SpellsCrls Der) text (found cs)
+lists_again [] all text w = record { cases = w }
+lists_again (c ∷ cs) all text w = record { cases = wraps_of (Repeats (SpellsCrl Der)) (crls_again (c ∷ cs) all) text w }
 
 -- Signers.
 
@@ -104,14 +88,14 @@ signers_type kind (s ∷ ss) = All-cons (SignsType kind) (signs_of kind s) (map 
 
 -- The object.
 
-abbrev data_of : Multi → MultiFields (List CrlValue)
+abbrev data_of : Multi → MultiFields
 data_of o = (tt, ((tt, tt), ((o.content_type, ((o.content, tt), tt)), (o.certs, (found o.crls, (map (signs_of o.content_type) o.signers, tt))))))
 
-abbrev info_of : Multi → InfoFields (List CrlValue)
+abbrev info_of : Multi → InfoFields
 info_of o = (tt, ((data_of o, tt), tt))
 
-info_again : CrlIsSpelled → (o : Multi) → IsReadable o → (text : List ℕ) → WritesAgain o text → SpellsMultiInfo Der (AreLists Der) text (info_of o)
-info_again told o r =
+info_again : (o : Multi) → IsReadable o → (text : List ℕ) → WritesAgain o text → SpellsMultiInfo Der text (info_of o)
+info_again o r =
     wraps_of _
     (joins_of signed_data_spelled
     (ends_of
@@ -122,7 +106,7 @@ info_again told o r =
     (joins_of sha256_set_spelled
     (joins_of (content_spelled o.content_type o.content r.known)
     (joins_of (wraps_of _ (certs_again o.certs r.certs r.some_certs))
-    (joins_of (lists_again told o.crls r.crls)
+    (joins_of (lists_again o.crls r.crls)
     (ends_of (wraps_of _ (signers_again o.content_type o.signers r.signers r.some_signers)))))))))))))
 
 object_says : (o : Multi) → with_null o ≡ multi_of (data_of o)
@@ -130,14 +114,14 @@ object_says o =
     ap (λ (cs : List CrlValue). (let m : Multi = record { content_type = o.content_type; content = o.content; certs = o.certs; crls = cs; signers = map signer_with_null o.signers } in m)) (sym (lists_found o.crls))
     ∙ ap (λ (ss : List Signer). (let m : Multi = record { content_type = o.content_type; content = o.content; certs = o.certs; crls = lists_of (found o.crls); signers = ss } in m)) (signers_said o.content_type o.signers)
 
-pub object_again : CrlIsSpelled → (o : Multi) (text : List ℕ) → IsReadable o → WritesAgain o text → MultiText true text (with_null o)
-object_again told o text r w = record {
+pub object_again : (o : Multi) (text : List ℕ) → IsReadable o → WritesAgain o text → MultiText true text (with_null o)
+object_again o text r w = record {
   text = text;
   rest = [];
   whole = sym (append-nil text);
   is = record {
     fields = info_of o;
-    is = info_again told o r text w;
+    is = info_again o r text w;
     says = record { fields = object_says o; same_type = signers_type o.content_type o.signers };
   };
 }
@@ -148,15 +132,13 @@ certs_read : (text : List ℕ) (cs : List CertValue) → RepeatsCases (SpellsCer
 certs_read text [] p = All-nil IsReadableCert
 certs_read text (c ∷ cs) p = All-cons IsReadableCert c cs (p.0, p.3) (certs_read p.1 cs p.4)
 
-crls_read : (text : List ℕ) (cs : List CrlValue) (ts : Trees) → ManyCases (IsCrl Der) ts cs → SpellsAll Der ts text → All IsReadableCrl cs
-crls_read text [] ts p s = All-nil IsReadableCrl
-crls_read text (c ∷ cs) ts p s =
-    let w = subst (λ (us : Trees). SpellsAll Der us text) p.2 s in
-    All-cons IsReadableCrl c cs (w.0, record { tree = p.0; is = p.3; spelled = w.2 }) (crls_read w.1 cs p.1 p.4 w.3)
+crls_read : (text : List ℕ) (cs : List CrlValue) → RepeatsCases (SpellsCrl Der) text cs → All IsReadableCrl cs
+crls_read text [] p = All-nil IsReadableCrl
+crls_read text (c ∷ cs) p = All-cons IsReadableCrl c cs (p.0, p.3) (crls_read p.1 cs p.4)
 
-lists_read : (text : List ℕ) (l : Option (List CrlValue)) → PerhapsCases (Wraps Der (context 1) (AreLists Der)) text l → All IsReadableCrl (lists_of l)
+lists_read : (text : List ℕ) (l : Option (List CrlValue)) → PerhapsCases (SpellsCrls Der) text l → All IsReadableCrl (lists_of l)
 lists_read text None p = All-nil IsReadableCrl
-lists_read text (Some cs) p = crls_read p.content cs p.is.are.trees p.is.are.is.cases p.is.are.spelled
+lists_read text (Some cs) p = crls_read p.content cs p.is.cases
 
 signer_read : (kind text : List ℕ) (f : SignerFields) → SignsType kind f → SpellsSigner Der text f → IsReadableSigner kind (signer_of f)
 signer_read kind text f type p =
@@ -172,7 +154,7 @@ signers_read kind text (f ∷ fs) all p =
     All-cons (IsReadableSigner kind) (signer_of f) (map signer_of fs) (signer_read kind p.0 f (all_first (SignsType kind) f fs all) p.3)
     (signers_read kind p.1 fs (all_others (SignsType kind) f fs all) p.4)
 
-fields_read : (text : List ℕ) (f : InfoFields (List CrlValue)) → SpellsMultiInfo Der (AreLists Der) text f → All (SignsType f.1.0.0.1.1.0.0) f.1.0.0.1.1.1.1.1.0 → IsReadable (multi_of f.1.0.0)
+fields_read : (text : List ℕ) (f : InfoFields) → SpellsMultiInfo Der text f → All (SignsType f.1.0.0.1.1.0.0) f.1.0.0.1.1.1.1.1.0 → IsReadable (multi_of f.1.0.0)
 fields_read text f p type =
     let content = p.is.rest.is.is.is.is.rest.rest in
     let kind = content.is.is.is.is in

@@ -1,8 +1,6 @@
 -- What is written of a certificate and of a revocation list that stand in DER is read again.
 use Rattle.std.proofs.Common.{ℕ, Bool, List, sym, ap, subst}
 use Rattle.objects_written.specs.bcder_tree.declared.mode.Mode.TheVariants.{Der}
-use Rattle.objects_written.specs.bcder_tree.Tree.{Spells, SpellsAll, Tree, Trees, constructed}
-use Rattle.objects_written.specs.bcder_tree.Tags.{sequence_tag}
 use Rattle.certs_cert.specs.bcder_octets.Bits.{BitsValue}
 use Rattle.certs_cert.specs.bcder_octets.BitContents.{IsBitString, IsPadded, bit_string_tag}
 use Rattle.objects_written.specs.bcder_content.Grammar.{OctetsOf}
@@ -17,10 +15,9 @@ use Rattle.objects_written.specs.certs_basics.Basics.{IsAlgorithm}
 use Rattle.objects_written.specs.certs_basics.Identifiers.{sha256_with_rsa}
 use Rattle.objects_written.specs.certs_extension.Cert.{CertValue}
 use Rattle.objects_written.specs.certs_extension.CertText.{SpellsCert, SpellsSigned, as_signed}
-use Rattle.objects_written.specs.certs_extension.CrlText.{CrlValue, IsCrl, SpellsCrl}
-use Rattle.certs_extension.specs.Spellings.{CrlIsSpelled}
-use Rattle.objects_written.specs.Outputs.{of}
-use Rattle.objects_written.proofs.Words.{only_spelled, spelled_of}
+use Rattle.objects_written.specs.certs_extension.CrlText.{CrlValue, SpellsCrl}
+use Rattle.objects_contents.specs.Outputs.{of}
+use Rattle.objects_contents.proofs.Words.{spelled_of}
 use Rattle.objects_rta_written.specs.Again.{IsCertInDer, IsCrlInDer, IsReadableCert, IsReadableCrl}
 use Rattle.objects_rta_written.specs.Frames.{cert, crl, signed, value_of}
 use Rattle.objects_written.proofs.FrameAgain.{by_trees, ends_of, joins_of, only, wraps_of}
@@ -57,32 +54,15 @@ cert_again c r text w =
     let written = subst (λ (k : CertValue). (cert k).writes Der text) p.says w in
     record { fields = p.fields; is = signed_again p.fields r.0 text p.is written; says = p.says }
 
-spells_crl : (c : CrlValue) (old text : List ℕ) → SpellsCrl Der old c → (crl c).writes Der text → SpellsCrl Der text c
-spells_crl c old text p w =
-    let written = subst (λ (k : CrlValue). (crl k).writes Der text) p.says w in
-    record { fields = p.fields; is = signed_again p.fields old text p.is written; says = p.says; agree = p.agree }
-
--- The octets that are written spell one value.
-record OneValue (text : List ℕ) : Type 0 where
-  tree : Tree
-  spelled : Spells Der tree text
-
-one_value : (c : CrlValue) (text : List ℕ) → (crl c).writes Der text → OneValue text
-one_value c text w =
-    let s = (crl c).spelled Der text w in
-    let tree : Tree = constructed sequence_tag s.is.values in
-    record { tree = tree; spelled = only_spelled Der tree text (subst (λ (ts : Trees). SpellsAll Der ts text) s.is.whole s.spelled) }
-
-pub crl_again : CrlIsSpelled → (c : CrlValue) → IsReadableCrl c → (text : List ℕ) → (crl c).writes Der text → SpellsOf Der (IsCrl Der) text c
-crl_again told c r text w =
+pub crl_again : (c : CrlValue) → IsReadableCrl c → (text : List ℕ) → (crl c).writes Der text → SpellsCrl Der text c
+crl_again c r text w =
     let p = r.1 in
-    let o = one_value c text w in
-    let octets = spells_crl c r.0 text ((told p.tree r.0 c p.spelled).0 p.is) w in
-    record { tree = o.tree; is = (told o.tree text c o.spelled).1 octets; spelled = o.spelled }
+    let written = subst (λ (k : CrlValue). (crl k).writes Der text) p.says w in
+    record { fields = p.fields; is = signed_again p.fields r.0 text p.is written; says = p.says; agree = p.agree }
 
 -- They stand in DER.
 pub cert_in_der : (c : CertValue) → IsReadableCert c → IsCertInDer c
 cert_in_der c r = ap (λ (k : CertValue). k.signed.mode) r.1.says
 
 pub crl_in_der : (c : CrlValue) → IsReadableCrl c → IsCrlInDer c
-crl_in_der c r = ap (λ (k : CrlValue). k.signed.mode) r.1.is.is.means
+crl_in_der c r = ap (λ (k : CrlValue). k.signed.mode) r.1.says

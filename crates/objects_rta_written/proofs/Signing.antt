@@ -22,11 +22,11 @@ use Rattle.objects_rta.proofs.of_objects_cms.Ones.{signer_one}
 use Rattle.objects_rta.proofs.of_objects_cms.Spelled.{signer_tree}
 use Rattle.objects_written.specs.Attributes.{IsMessage, ToSign, WritesAttributes, attributes_of}
 use Rattle.objects_written.specs.Frames.{SignerParts, signer as written_signer}
-use Rattle.objects_written.specs.Refusing.{BuildRefused, CanTell, CannotSign}
+use Rattle.objects_written.specs.Refusing.{BuildRefused, CanTell, CannotSign, Refusals, RefusesAttributes, RefusesMessage}
 use Rattle.objects_written.proofs.Again.{attributes_again}
 use Rattle.objects_written.proofs.Refused.{enclosing, passed, weaker}
 use Rattle.objects_rta.specs.Attestations.{tagged_attestation}
-use Rattle.objects_rta_written.specs.Builders.{AddsSigner, CannotAdd, CannotMake, CannotPut, Draft, IsSigner}
+use Rattle.objects_rta_written.specs.Builders.{AddsSigner, CannotAdd, CannotMake, CannotPut, Draft, IsSigner, RefusesSigner}
 use Rattle.objects_rta_written.specs.Signing.{AreAttributesOf, SignsThem, fields_of}
 use Rattle.objects_written.specs.Taking.{in_der}
 use Rattle.objects_written.proofs.FrameAgain.{signer_spelled}
@@ -75,22 +75,22 @@ cannot_put Signs s sid signature c mode are p none =
       subst (λ (d : CapturedValue). Writable ((written_signer (record { sid = sid; attributes = d; signature = signature })).writes Der) → ⊥) k none,
     )
 
-pub put_refused : {A E : Type 0} (refuses : SigningError E → Type 0) (Signs : List ℕ → List ℕ → Type 0) (s : ToSign) (sid signature : List ℕ) (c : CapturedValue) → s.content_type ≡ tagged_attestation → c.mode ≡ Der
+pub put_refused : {A E : Type 0} (refuses : List ℕ → SigningError E → Type 0) (Signs : List ℕ → List ℕ → Type 0) (s : ToSign) (sid signature : List ℕ) (c : CapturedValue) → s.content_type ≡ tagged_attestation → c.mode ≡ Der
     → AreAttributesOf s c.octets → SignsThem Signs c.octets signature → (r : Result A (SigningError E))
     → IfErr r (BuildRefused {E = E} (λ e. ⊥) (Unit {0}) (Writable ((written_signer (record { sid = sid; attributes = c; signature = signature })).writes Der) → ⊥))
-    → IfErr r (BuildRefused refuses (CanTell tagged_attestation) (CannotMake Signs s sid))
+    → IfErr r (BuildRefused (RefusesAttributes refuses s) (CanTell tagged_attestation) (CannotMake Signs s sid))
 put_refused refuses Signs s sid signature c kind mode are p r h =
-    passed refuses (Unit {0}) (CanTell tagged_attestation) (CannotMake Signs s sid) (CannotMake Signs s sid) (λ u. subst CanTell kind (are.written.type_text, are.written.type_is)) (λ n. n) r
-    (enclosing refuses (Unit {0}) _ (CannotMake Signs s sid) (λ n. inr (cannot_put Signs s sid signature c mode are p n)) r h)
+    passed (RefusesAttributes refuses s) (RefusesAttributes refuses s) (Unit {0}) (CanTell tagged_attestation) (CannotMake Signs s sid) (CannotMake Signs s sid) (λ e x. x) (λ u. subst CanTell kind (are.written.type_text, are.written.type_is)) (λ n. n) r
+    (enclosing (RefusesAttributes refuses s) (Unit {0}) _ (CannotMake Signs s sid) (λ n. inr (cannot_put Signs s sid signature c mode are p n)) r h)
 
-pub sign_refused : {E : Type 0} (refuses : SigningError E → Type 0) (Signs : List ℕ → List ℕ → Type 0) (s : ToSign) (sid octets : List ℕ) → s.content_type ≡ tagged_attestation → AreAttributesOf s octets → (e : SigningError E)
-    → BuildRefused refuses (Unit {0}) (Writable (IsMessage octets) → ⊥) e → BuildRefused refuses (CanTell tagged_attestation) (CannotMake Signs s sid) e
+pub sign_refused : {E : Type 0} (refuses : List ℕ → SigningError E → Type 0) (Signs : List ℕ → List ℕ → Type 0) (s : ToSign) (sid octets : List ℕ) → s.content_type ≡ tagged_attestation → AreAttributesOf s octets → (e : SigningError E)
+    → BuildRefused (RefusesMessage refuses octets) (Unit {0}) (Writable (IsMessage octets) → ⊥) e → BuildRefused (RefusesAttributes refuses s) (CanTell tagged_attestation) (CannotMake Signs s sid) e
 sign_refused refuses Signs s sid octets kind are e h =
-    weaker refuses (Unit {0}) (CanTell tagged_attestation) (Writable (IsMessage octets) → ⊥) (CannotMake Signs s sid) (λ u. subst CanTell kind (are.written.type_text, are.written.type_is)) (λ n. inl (inr (octets, are.written, n))) e h
+    weaker (RefusesMessage refuses octets) (RefusesAttributes refuses s) (Unit {0}) (CanTell tagged_attestation) (Writable (IsMessage octets) → ⊥) (CannotMake Signs s sid) (λ x r. (octets, are.written, r)) (λ u. subst CanTell kind (are.written.type_text, are.written.type_is)) (λ n. inl (inr (octets, are.written, n))) e h
 
 pub make_refused : {E : Type 0} (refuses : SigningError E → Type 0) (Signs : List ℕ → List ℕ → Type 0) (s : ToSign) (sid : List ℕ) (can : Type 0) (e : SigningError E) → BuildRefused refuses can (CannotSign s) e
     → BuildRefused refuses can (CannotMake Signs s sid) e
-make_refused refuses Signs s sid can e h = weaker refuses can can (CannotSign s) (CannotMake Signs s sid) (λ u. u) inl e h
+make_refused refuses Signs s sid can e h = weaker refuses refuses can can (CannotSign s) (CannotMake Signs s sid) (λ x r. r) (λ u. u) inl e h
 
 -- With the key that the signer told.
 cannot_add : (d : Digests) (HasKey : KeyValue → Type 0) (Signs : List ℕ → List ℕ → Type 0) (s : ToSign) (key : KeyValue) (sid : List ℕ) → HasKey key → sid ≡ identifier d key → CannotMake Signs s sid → CannotAdd d HasKey Signs s
@@ -100,10 +100,10 @@ cannot_add d HasKey Signs s key sid has same m =
       | inr p ↦ inr (key, has, subst (CannotPut Signs s) same p)
     ]
 
-pub add_refused : {A E : Type 0} (refuses : SigningError E → Type 0) (can : Type 0) (d : Digests) (HasKey : KeyValue → Type 0) (Signs : List ℕ → List ℕ → Type 0) (s : ToSign) (key : KeyValue) (sid : List ℕ) → HasKey key → sid ≡ identifier d key
-    → (r : Result A (SigningError E)) → IfErr r (BuildRefused refuses can (CannotMake Signs s sid)) → IfErr r (BuildRefused refuses can (CannotAdd d HasKey Signs s))
-add_refused refuses can d HasKey Signs s key sid has same r h =
-    passed refuses can can (CannotMake Signs s sid) (CannotAdd d HasKey Signs s) (λ u. u) (cannot_add d HasKey Signs s key sid has same) r h
+pub add_refused : {A E : Type 0} (refusals : Refusals E) (can : Type 0) (d : Digests) (HasKey : KeyValue → Type 0) (Signs : List ℕ → List ℕ → Type 0) (s : ToSign) (key : KeyValue) (sid : List ℕ) → HasKey key → sid ≡ identifier d key
+    → (r : Result A (SigningError E)) → IfErr r (BuildRefused (RefusesAttributes refusals.message s) can (CannotMake Signs s sid)) → IfErr r (BuildRefused (RefusesSigner refusals s) can (CannotAdd d HasKey Signs s))
+add_refused refusals can d HasKey Signs s key sid has same r h =
+    passed (RefusesAttributes refusals.message s) (RefusesSigner refusals s) can can (CannotMake Signs s sid) (CannotAdd d HasKey Signs s) (λ x r. inr r) (λ u. u) (cannot_add d HasKey Signs s key sid has same) r h
 
 -- What is put together.
 

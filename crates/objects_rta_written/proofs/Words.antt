@@ -2,7 +2,7 @@
 use Rattle.std.proofs.Common.{ℕ, List, [], ◌∷◌, map, suc, arith}
 use Rattle.std.specs.Prelude.{All}
 use Rattle.objects_written.specs.bcder_tree.declared.mode.Mode.TheVariants.{Der}
-use Rattle.objects_written.specs.Outputs.{Output, each}
+use Rattle.objects_contents.specs.Outputs.{Output, each}
 use Rattle.objects_rta.specs.Several.{RepeatsCases}
 
 -- What holds of each holds of the first, and of the others.

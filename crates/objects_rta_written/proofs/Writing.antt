@@ -17,7 +17,7 @@ use Rattle.objects_written.specs.certs_extension.CrlText.{CrlValue}
 use Rattle.objects_written.specs.objects_payload.ObjectText.{signer_of}
 use Rattle.objects_written.specs.objects_cms.Signer.{SignerValue, signer_fields}
 use Rattle.objects_written.specs.Frames.{SignerParts}
-use Rattle.objects_written.specs.Outputs.{Output, each, inside}
+use Rattle.objects_contents.specs.Outputs.{Output, each, inside}
 use Rattle.objects_written.specs.bcder_tree.Tags.{context}
 use Rattle.resources_as.specs.Written.{HasMaximal}
 use Rattle.resources_as.proofs.of_resources_chain.SetLemmas.{one_list_of}

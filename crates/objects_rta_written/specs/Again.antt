@@ -3,13 +3,13 @@ use Rattle.std.specs.Prelude.{◌≡◌, ◌≢◌, ℕ, List, [], map, true, Al
 use Rattle.objects_written.specs.bcder_tree.declared.mode.Mode.TheVariants.{Der}
 use Rattle.objects_written.specs.bcder.Identifiers.{IsIdentifier}
 use Rattle.objects_written.specs.bcder_content.Kept.{SpellsValues}
-use Rattle.objects_written.specs.bcder_content.Texts.{InOrder, SpellsOf}
+use Rattle.objects_written.specs.bcder_content.Texts.{InOrder}
 use Rattle.objects_written.specs.bcder_primitive.declared.written.error.EncodeError.{EncodeError}
 use Rattle.objects_written.specs.bcder_primitive.declared.written.error.EncodeError.TheVariants as errors
 use Rattle.objects_written.specs.certs_basics.Basics.{IsTwentyLong}
 use Rattle.objects_written.specs.certs_extension.Cert.{CertValue}
 use Rattle.objects_written.specs.certs_extension.CertText.{SpellsCert}
-use Rattle.objects_written.specs.certs_extension.CrlText.{CrlValue, IsCrl}
+use Rattle.objects_written.specs.certs_extension.CrlText.{CrlValue, SpellsCrl}
 use Rattle.objects_written.specs.objects_payload.ObjectText.{Signer, signer_of}
 use Rattle.objects_written.specs.objects_payload.SignedAttributes.{AreAttributes, AttributesValue}
 use Rattle.objects_written.specs.Frames.{SignerParts}
@@ -102,7 +102,7 @@ abbrev pub IsReadableCert : CertValue → Type 0
 IsReadableCert c = (octets : List ℕ) × SpellsCert Der octets c
 
 abbrev pub IsReadableCrl : CrlValue → Type 0
-IsReadableCrl c = (octets : List ℕ) × SpellsOf Der (IsCrl Der) octets c
+IsReadableCrl c = (octets : List ℕ) × SpellsCrl Der octets c
 
 pub record IsReadableSigner (kind : List ℕ) (s : Signer) : Type 0 where
   pub long : IsTwentyLong s.sid

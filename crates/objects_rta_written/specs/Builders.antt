@@ -9,7 +9,8 @@ use Rattle.objects_written.specs.certs_extension.CrlText.{CrlValue}
 use Rattle.objects_written.specs.objects_payload.ObjectText.{IsSignedMessage, Signer}
 use Rattle.objects_written.specs.Attributes.{ToSign, WritesAttributes, to_sign}
 use Rattle.objects_written.specs.Frames.{signer as written_signer}
-use Rattle.objects_written.specs.Refusing.{CannotSign}
+use Rattle.objects_written.specs.certs_key.declared.signer.SigningError.{SigningError}
+use Rattle.objects_written.specs.Refusing.{BuildRefused, CanTell, CannotSign, Refusals, RefusesAttributes}
 use Rattle.resources_ip.specs.resources_chain.Claims.{Choice}
 use Rattle.resources_ip.specs.resources_chain.Sets.{InRuns, IsRunsOf, Run}
 use Rattle.resources_ip.specs.resources_chain.declared.choice.ResourcesChoice.TheVariants.{Missing, Blocks}
@@ -133,3 +134,13 @@ abbrev pub CannotAdd : Digests → (KeyValue → Type 0) → (List ℕ → List 
     → Type 0
 CannotAdd d HasKey Signs s =
     CannotSign s ⊎ ((key : KeyValue) × HasKey key × CannotPut Signs s (identifier d key))
+
+-- The signer refuses its public key, or what is signed of the attributes by this key (RFC 5652 5.4).
+abbrev pub RefusesSigner : {E : Type 0} → Refusals E → ToSign → SigningError E → Type 0
+RefusesSigner r s e = r.key e ⊎ RefusesAttributes r.message s e
+
+-- Why no signer is added: the signer is asked for its public key before anything is written.
+abbrev pub SignerRefused : {E : Type 0} → Refusals E → Digests → (KeyValue → Type 0)
+    → (List ℕ → List ℕ → Type 0) → ToSign → SigningError E → Type 0
+SignerRefused r d HasKey Signs s =
+    BuildRefused (RefusesSigner r s) (CanTell s.content_type) (CannotAdd d HasKey Signs s)

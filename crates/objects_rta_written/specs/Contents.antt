@@ -17,7 +17,7 @@ use Rattle.resources_ip.specs.Written.{FitsChoice}
 use Rattle.resources_ip.specs.WrittenFamilies.{both, says_any}
 use Rattle.certs.specs.Resources.{said_families}
 use Rattle.certs.specs.Values.{addresses}
-use Rattle.objects_written.specs.Outputs.{Output, beside, each, inside, of, perhaps}
+use Rattle.objects_contents.specs.Outputs.{Output, beside, each, inside, of, perhaps}
 use Rattle.objects_written.specs.Frames.{algorithm, sha256}
 use Rattle.objects_rta.specs.objects_valid.Stated.{Stated}
 use Rattle.objects_rta.specs.Attestations.{Attestation}

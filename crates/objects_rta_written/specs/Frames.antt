@@ -8,7 +8,7 @@ use Rattle.objects_written.specs.certs_extension.CrlText.{CrlValue}
 use Rattle.objects_written.specs.objects_payload.Identifiers as id
 use Rattle.certs.specs.certs_x509.Signed.{SignedDataValue, signed as signed_form, signed_fields}
 use Rattle.certs.specs.Fields.{version}
-use Rattle.objects_written.specs.Outputs.{Output, beside, each, inside, of}
+use Rattle.objects_contents.specs.Outputs.{Output, beside, each, inside, of}
 use Rattle.objects_written.specs.Frames.{SignerParts, algorithm, content_info, sha256, signer}
 
 -- Signed octets with their mode, the algorithm, and the bits of the signature.

@@ -2,6 +2,7 @@ pub mod Contents
 pub mod Frames
 pub mod Taking
 pub mod Again
+pub mod Said
 pub mod Builders
 pub mod Making
 pub mod Signing

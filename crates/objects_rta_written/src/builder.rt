@@ -6,7 +6,7 @@ ghost use Rattle.resources_as.specs.resources_asn.Blocks.{as_run};
 ghost use Rattle.resources_ip.specs.Block.{run_of_block};
 ghost use Rattle.objects_rta_written.specs.Builders.{BuilderRefused, IsBegun, IsPutTogether};
 ghost use Rattle.objects_rta_written.specs.Contents.{IsReadable};
-ghost use Rattle.objects_rta_written.specs.Lending.{LendsNumbers, LendsV4, LendsV6};
+ghost use Rattle.objects_rta_written.specs.Lending.{LendsKeys, LendsNumbers, LendsV4, LendsV6};
 ghost use Rattle.objects_rta.specs.Attestations.{Attestation};
 
 mod making;
@@ -144,6 +144,14 @@ impl AttestationBuilder {
         ensures { result.now ≡ self.now.keys }
     {
         self.keys.as_slice()
+    }
+
+    /// Lends the keys that will sign, for a change.
+    pub fn keys_mut(&mut self) -> &mut Vec<KeyIdentifier>
+        ensures* lends { sem 𝓛 (LendsKeys self.entry result) }
+        ensures lent { result.now.items ≡ self.old.keys }
+    {
+        &mut self.keys
     }
 
     /// The blocks of AS numbers, as they came.

@@ -1,37 +1,39 @@
 //! Attestations that are signed by the holders of several keys, one after the other (RFC 5652 5.1, 5.3).
 
+ghost use Rattle.std.specs.Borrow.{sem};
 ghost use Rattle.std.specs.Prelude.{◌≡◌, ◌++◌, ◌∷◌, [], IfErr, IfOk, OnErr, OnOk};
 ghost use Rattle.objects_written.specs.certs_key.Digesting.{digests_of};
-ghost use Rattle.objects_written.specs.Refusing.{BuildRefused, CanTell};
-ghost use Rattle.objects_rta.specs.Attestations.{tagged_attestation};
+ghost use Rattle.objects_written.specs.Refusing.{refusals_of};
 ghost use Rattle.objects_rta_written.specs.Again.{signers_seen};
-ghost use Rattle.objects_rta_written.specs.Builders.{AddsSigner, CannotAdd, IsBegun, IsSigner, object_of, signs};
+ghost use Rattle.objects_rta_written.specs.Builders.{AddsSigner, IsBegun, IsSigner, SignerRefused, object_of, signs};
 ghost use Rattle.objects_written.specs.certs_basics.Keys.{KeyValue, identifier};
 ghost use Rattle.objects_written.specs.certs_key.declared.signer.SigningError.TheVariants.{Memory as no_memory};
 ghost use Rattle.objects_written.specs.objects_payload.ObjectText.{signer_of};
 ghost use Rattle.objects_rta.specs.objects_cms.Signer.{signer_fields};
 ghost use Rattle.objects_rta_written.specs.Contents.{AttestationRefused};
+ghost use Rattle.objects_rta_written.specs.Lending.{LendsCerts, LendsCrls, LendsSigners};
 
+mod said;
 mod signing;
 
 use crate::attestation::EncodeAttestation;
+use crate::draft::said::Said;
 use crate::draft::signing::signer_for;
 use crate::signer::octets_of;
 use bytes::Bytes;
 use certs::written::{EncodeError, Time};
 use certs_cert::Cert;
 use certs_key::oid::CT_RESOURCE_TAGGED_ATTESTATION;
-use certs_key::{Digester, OctetString, Oid, Signer, SigningError};
+use certs_key::{Digester, Oid, Signer, SigningError};
 use objects_rta::{Crl, MultiSignedObject, ResourceTaggedAttestation, Rta, SignerInfo};
 use std::alloc::{AllocError, Global};
 use std::marker::Model;
 
-/// An attestation that is being signed: what it says with its octets, and the certificates, revocation lists and signers that it
-/// will carry. Contracts see all of it.
+/// An attestation that is being signed: what it says with its octets, which always say so, and the certificates, revocation
+/// lists and signers that it will carry. Contracts see all of it.
 #[derive(Drop)]
 pub struct RtaBuilder {
-    content: ResourceTaggedAttestation,
-    octets: OctetString,
+    said: Said,
     certs: Vec<Cert>,
     crls: Vec<Crl>,
     signers: Vec<SignerInfo>,
@@ -44,8 +46,8 @@ impl Model for RtaBuilder {
     ghost Value = { Draft };
 
     ghost view = { λ b. record {
-      content = b.content;
-      octets = b.octets;
+      content = b.said.content;
+      octets = b.said.octets;
       certs = b.certs.items;
       crls = b.crls.items;
       signers = signers_seen b.signers.items;
@@ -64,8 +66,7 @@ impl RtaBuilder {
     {
         match attestation.to_captured(alloc) {
             Ok(octets) => Ok(RtaBuilder {
-                content: attestation,
-                octets: OctetString::new(octets.into_bytes()),
+                said: Said::of_written(attestation, octets),
                 certs: Vec::new(alloc),
                 crls: Vec::new(alloc),
                 signers: Vec::new(alloc),
@@ -90,8 +91,7 @@ impl RtaBuilder {
         let (signed, content) = rta.into_parts();
         let (octets, certs, crls, signers) = signed.into_parts();
         RtaBuilder {
-            content,
-            octets,
+            said: Said::new(content, octets),
             certs,
             crls,
             signers,
@@ -102,7 +102,7 @@ impl RtaBuilder {
     pub fn content(&self) -> &ResourceTaggedAttestation
         ensures { result.now ≡ self.now.content }
     {
-        &self.content
+        self.said.content()
     }
 
     /// One more certificate to be carried. On an error nothing changes.
@@ -122,6 +122,14 @@ impl RtaBuilder {
         self.certs.as_slice()
     }
 
+    /// Lends the certificates that will be carried, for a change.
+    pub fn certificates_mut(&mut self) -> &mut Vec<Cert>
+        ensures* lends { sem 𝓛 (LendsCerts self.entry result) }
+        ensures lent { result.now.items ≡ self.old.certs }
+    {
+        &mut self.certs
+    }
+
     /// One more revocation list to be carried. On an error nothing changes.
     pub fn push_crl(&mut self, crl: Crl) -> Result<(), AllocError>
         ensures ok { OnOk result
@@ -139,11 +147,27 @@ impl RtaBuilder {
         self.crls.as_slice()
     }
 
+    /// Lends the revocation lists that will be carried, for a change.
+    pub fn crls_mut(&mut self) -> &mut Vec<Crl>
+        ensures* lends { sem 𝓛 (LendsCrls self.entry result) }
+        ensures lent { result.now.items ≡ self.old.crls }
+    {
+        &mut self.crls
+    }
+
     /// The signers, in their order.
     pub fn signer_infos(&self) -> &[SignerInfo]
         ensures { signers_seen result.now ≡ self.now.signers }
     {
         self.signers.as_slice()
+    }
+
+    /// Lends the signers, for a change.
+    pub fn signer_infos_mut(&mut self) -> &mut Vec<SignerInfo>
+        ensures* lends { sem 𝓛 (LendsSigners self.entry result) }
+        ensures lent { signers_seen result.now.items ≡ self.old.signers }
+    {
+        &mut self.signers
     }
 
     /// One signer more, by that key of the signer, after the others: it signs attributes that tell the type of attestations, the
@@ -165,12 +189,12 @@ impl RtaBuilder {
             (signs (digests_of D.sha256_digest D.sha1_digest digester.now) self.old signing_time)
             self.old self.new) }
         ensures err { OnErr result (self.new ≡ self.old) }
-        ensures refused { IfErr result (BuildRefused (S.refuses signer.now)
-            (CanTell tagged_attestation) (CannotAdd
+        ensures refused { IfErr result (SignerRefused
+            (refusals_of S.refuses_key S.refuses S.refuses_once signer.now key.now)
             (digests_of D.sha256_digest D.sha1_digest digester.now)
             (S.has_key signer.now key.now) (S.signs signer.now key.now)
             (signs (digests_of D.sha256_digest D.sha1_digest digester.now)
-            self.old signing_time))) }
+            self.old signing_time)) }
     {
         match self.make(alloc, signer, key, signing_time, digester) {
             Ok(made) => self.add(made),
@@ -192,14 +216,14 @@ impl RtaBuilder {
             (signs (digests_of D.sha256_digest D.sha1_digest digester.now) self.now signing_time)
             (identifier (digests_of D.sha256_digest D.sha1_digest digester.now) k)
             (signer_of (signer_fields x))) }
-        ensures refused { IfErr result (BuildRefused (S.refuses signer.now)
-            (CanTell tagged_attestation) (CannotAdd
+        ensures refused { IfErr result (SignerRefused
+            (refusals_of S.refuses_key S.refuses S.refuses_once signer.now key.now)
             (digests_of D.sha256_digest D.sha1_digest digester.now)
             (S.has_key signer.now key.now) (S.signs signer.now key.now)
             (signs (digests_of D.sha256_digest D.sha1_digest digester.now)
-            self.now signing_time))) }
+            self.now signing_time)) }
     {
-        let content = octets_of(&self.octets);
+        let content = octets_of(self.said.octets());
         signer_for(alloc, content, signing_time, signer, key, digester)
     }
 
@@ -225,12 +249,12 @@ impl RtaBuilder {
         ensures content { result.content ≡ self.content }
     {
         let RtaBuilder {
-            content,
-            octets,
+            said,
             certs,
             crls,
             signers,
         } = self;
+        let (content, octets) = said.into_parts();
         let content_type = Oid(Bytes::from_static(CT_RESOURCE_TAGGED_ATTESTATION.0));
         let signed = MultiSignedObject::new(content_type, octets, certs, crls, signers);
         Rta::from_parts(signed, content)

@@ -14,8 +14,6 @@ ghost use Rattle.objects_rta_written.specs.Again.{IsReadable as IsReadableObject
 ghost use Rattle.objects_rta_written.specs.Builders.{Draft, IsBegun, Tells, object_of};
 ghost use Rattle.objects_rta_written.specs.Contents.{IsReadable, attestation};
 
-use certs_extension::forms::laws::crl_is_spelled;
-
 /// What is written in DER of an attestation is read again as the same, in the order of its keys: where these have 20 octets, and
 /// some resources are stated that can be.
 pub fn contents_are_read_again()
@@ -40,9 +38,7 @@ pub fn what_can_be_read_stands_in_der()
 pub fn objects_are_read_again()
     ensures { (o : Multi) (text : List ℕ) → IsReadableObject o → WritesAgain o text
         → MultiText true text (with_null o) }
-{
-    crl_is_spelled();
-}
+{}
 
 /// What is written of an attestation that was read strictly is read again, strictly, as one with the same content: the object is
 /// the same, with NULL in the algorithm of each signature.

@@ -23,7 +23,7 @@ use Rattle.objects_cms.specs.declared.attributes.said.Said.TheVariants.{ContentT
 use Rattle.objects_cms.proofs.AttributesTold.{attributes_are}
 use Rattle.certs.specs.Fields.{PlainTrees, time}
 use Rattle.certs.specs.Outputs.{Output, of}
-use Rattle.objects_written.proofs.Words.{inside_of, last_of, spelled_of}
+use Rattle.objects_contents.proofs.Words.{inside_of, last_of, spelled_of}
 use Rattle.objects_written.specs.Attributes.{ToSign, WritesAttributes, attribute, attributes_of, content_type, message_digest, signing_time}
 use Rattle.objects_written.specs.Orders.{AreThese, SetText}
 

@@ -20,7 +20,7 @@ use Rattle.objects_written.specs.objects_payload.ObjectText.{AreDigestAlgorithms
 use Rattle.objects_written.specs.objects_payload.SignedAttributes.{AreAttributes, AttributesValue}
 use Rattle.certs.specs.Fields.{version}
 use Rattle.certs.specs.Outputs.{Output, of}
-use Rattle.objects_written.proofs.Words.{inside_of, last_of, spelled_of, then_of}
+use Rattle.objects_contents.proofs.Words.{inside_of, last_of, spelled_of, then_of}
 use Rattle.objects_written.specs.Attributes.{ToSign, attributes_of}
 use Rattle.objects_written.specs.Frames.{AreParts, ObjectParts, SignerParts, algorithm, content_info, kept, object, object_with, rsa, sha256, signed_data, signer}
 use Rattle.objects_written.proofs.Again.{attributes_again}

@@ -1,12 +1,3 @@
-pub mod Same
-pub mod Words
-pub mod Turned
-pub mod Parts
-pub mod RoaAgain
-pub mod ManifestAgain
-pub mod Making
-pub mod Told
-pub mod Passed
 pub mod Ordering
 pub mod Sets
 pub mod Again

@@ -17,17 +17,17 @@ use Rattle.certs_cert.specs.Written.{RefusesCert, WritesCert}
 use Rattle.objects_written.specs.Attributes.{IsMessage, IsRefused, MessageRefused, ToSign}
 use Rattle.objects_written.specs.Frames.{ObjectParts, SignerParts, object}
 use Rattle.objects_written.specs.Builders.{AreFieldsOf, BuilderValue}
-use Rattle.objects_written.specs.Refusing.{BuildRefused, CannotCertify, CannotEnclose, CannotSign, told_as}
+use Rattle.objects_written.specs.Refusing.{BuildRefused, CannotCertify, CannotEnclose, CannotSign, RefusesMessage, RefusesToCertify, told_as}
 
 -- What a refusal says, by what it said before.
-pub weaker : {E : Type 0} (refuses : SigningError E → Type 0) (can could cannot less : Type 0) → (can → could) → (cannot → less) → (e : SigningError E) → BuildRefused refuses can cannot e
-    → BuildRefused refuses could less e
-weaker refuses can could cannot less f g errors.KeyNotFound r = r
-weaker refuses can could cannot less f g errors.IncompatibleKey r = r
-weaker refuses can could cannot less f g (errors.Signer e) r = r
-weaker refuses can could cannot less f g errors.TooLong r = g r
-weaker refuses can could cannot less f g errors.Memory r = elim r [
-  | inl m ↦ inl m
+pub weaker : {E : Type 0} (asked whole : SigningError E → Type 0) (can could cannot less : Type 0) → ((e : SigningError E) → asked e → whole e) → (can → could) → (cannot → less) → (e : SigningError E)
+    → BuildRefused asked can cannot e → BuildRefused whole could less e
+weaker asked whole can could cannot less h f g errors.KeyNotFound r = h errors.KeyNotFound r
+weaker asked whole can could cannot less h f g errors.IncompatibleKey r = h errors.IncompatibleKey r
+weaker asked whole can could cannot less h f g (errors.Signer e) r = h (errors.Signer e) r
+weaker asked whole can could cannot less h f g errors.TooLong r = g r
+weaker asked whole can could cannot less h f g errors.Memory r = elim r [
+  | inl m ↦ inl (h errors.Memory m)
   | inr c ↦ inr (f c)
 ]
 
@@ -39,10 +39,11 @@ by_signer refuses can cannot (errors.Signer e) n r = r
 by_signer refuses can cannot errors.TooLong n r = absurd (n refl)
 by_signer refuses can cannot errors.Memory n r = inl r
 
-pub asked : {A E : Type 0} (refuses : SigningError E → Type 0) (can cannot : Type 0) (r : Result A (SigningError E)) → IfErr r (λ e. e ≢ errors.TooLong) → IfErr r refuses
-    → IfErr r (BuildRefused refuses can cannot)
-asked refuses can cannot (Ok x) n r = tt
-asked refuses can cannot (Err e) n r = by_signer refuses can cannot e n r
+-- Asked to sign what is signed of the attributes, which is lent.
+pub asked : {A E : Type 0} (refuses : List ℕ → SigningError E → Type 0) (attributes message lent : List ℕ) (can cannot : Type 0) → lent ≡ message → IsMessage attributes message → (r : Result A (SigningError E))
+    → IfErr r (λ e. e ≢ errors.TooLong) → IfErr r (refuses lent) → IfErr r (BuildRefused (RefusesMessage refuses attributes) can cannot)
+asked refuses attributes message lent can cannot same is (Ok x) n r = tt
+asked refuses attributes message lent can cannot same is (Err e) n r = by_signer (RefusesMessage refuses attributes) can cannot e n (lent, subst (IsMessage attributes) (sym same) is, r)
 
 -- Of what is signed.
 no_message : {E : Type 0} (refuses : SigningError E → Type 0) (can : Type 0) (attributes : List ℕ) (e : EncodeError) → can → MessageRefused attributes e
@@ -67,16 +68,16 @@ pub attributes_refused : {E : Type 0} (refuses : SigningError E → Type 0) (can
 attributes_refused refuses can s e x same c r = subst (BuildRefused refuses can (CannotSign s)) (sym same) (no_attributes refuses can s e c r)
 
 -- Of the certificate.
-certified : {E : Type 0} (refuses : SigningError E → Type 0) (d : Digests) (b : BuilderValue) (issuer_key key : KeyValue) (t : TbsValue) → AreFieldsOf d b issuer_key key t → (e : SigningError E)
-    → SigningRefused refuses t e → BuildRefused refuses (Unit {0}) (CannotCertify d b issuer_key key) e
-certified refuses d b issuer_key key t are errors.KeyNotFound r = r.1
-certified refuses d b issuer_key key t are errors.IncompatibleKey r = r.1
-certified refuses d b issuer_key key t are (errors.Signer e) r = r.1
+certified : {E : Type 0} (refuses : List ℕ → SigningError E → Type 0) (d : Digests) (b : BuilderValue) (issuer_key key : KeyValue) (t : TbsValue) → AreFieldsOf d b issuer_key key t → (e : SigningError E)
+    → SigningRefused refuses t e → BuildRefused (RefusesToCertify refuses d b issuer_key key) (Unit {0}) (CannotCertify d b issuer_key key) e
+certified refuses d b issuer_key key t are errors.KeyNotFound r = record { fields = t; are = are; refused = r.1 }
+certified refuses d b issuer_key key t are errors.IncompatibleKey r = record { fields = t; are = are; refused = r.1 }
+certified refuses d b issuer_key key t are (errors.Signer e) r = record { fields = t; are = are; refused = r.1 }
 certified refuses d b issuer_key key t are errors.TooLong r = record { fields = t; are = are; none = r }
 certified refuses d b issuer_key key t are errors.Memory r = inr tt
 
-pub cert_refused : {A E : Type 0} (refuses : SigningError E → Type 0) (d : Digests) (b : BuilderValue) (issuer_key key : KeyValue) (t : TbsValue) → AreFieldsOf d b issuer_key key t
-    → (r : Result A (SigningError E)) → IfErr r (SigningRefused refuses t) → IfErr r (BuildRefused refuses (Unit {0}) (CannotCertify d b issuer_key key))
+pub cert_refused : {A E : Type 0} (refuses : List ℕ → SigningError E → Type 0) (d : Digests) (b : BuilderValue) (issuer_key key : KeyValue) (t : TbsValue) → AreFieldsOf d b issuer_key key t
+    → (r : Result A (SigningError E)) → IfErr r (SigningRefused refuses t) → IfErr r (BuildRefused (RefusesToCertify refuses d b issuer_key key) (Unit {0}) (CannotCertify d b issuer_key key))
 cert_refused refuses d b issuer_key key t are (Ok x) h = tt
 cert_refused refuses d b issuer_key key t are (Err e) h = certified refuses d b issuer_key key t are e h
 
@@ -138,7 +139,7 @@ pub enclosing : {A E : Type 0} (refuses : SigningError E → Type 0) (can cannot
 enclosing refuses can cannot less g (Ok x) h = tt
 enclosing refuses can cannot less g (Err e) h = unasked refuses can cannot less g e h
 
-pub passed : {A E : Type 0} (refuses : SigningError E → Type 0) (can could cannot less : Type 0) → (can → could) → (cannot → less) → (r : Result A (SigningError E)) → IfErr r (BuildRefused refuses can cannot)
-    → IfErr r (BuildRefused refuses could less)
-passed refuses can could cannot less f g (Ok x) h = tt
-passed refuses can could cannot less f g (Err e) h = weaker refuses can could cannot less f g e h
+pub passed : {A E : Type 0} (asked whole : SigningError E → Type 0) (can could cannot less : Type 0) → ((e : SigningError E) → asked e → whole e) → (can → could) → (cannot → less) → (r : Result A (SigningError E))
+    → IfErr r (BuildRefused asked can cannot) → IfErr r (BuildRefused whole could less)
+passed asked whole can could cannot less h f g (Ok x) r = tt
+passed asked whole can could cannot less h f g (Err e) r = weaker asked whole can could cannot less h f g e r

@@ -4,7 +4,6 @@ use Rattle.std.specs.Result.{IsErr, IsErrAnd}
 use Rattle.objects_written.specs.bcder_tree.declared.mode.Mode.TheVariants.{Der}
 use Rattle.objects_written.specs.bcder_primitive.declared.written.error.EncodeError.{EncodeError}
 use Rattle.objects_written.specs.bcder_primitive.declared.written.error.EncodeError.TheVariants as errors
-use Rattle.objects_written.specs.bcder_primitive.Writing.{HasLength}
 use Rattle.objects_written.specs.bcder_values.Gathered.{ExtendRefused}
 use Rattle.certs.specs.Outputs.{Output}
 use Rattle.objects_written.specs.Attributes.{IsRefused, ToSign, WritesAttributes, content_type, message_digest, signing_time}
@@ -60,12 +59,6 @@ set_stop s a b c p q r (Err e) h = set_error s a b c p q r e h
 pub stopped : {A : Type 0} (F : EncodeError → Type 0) (r : Result A EncodeError) (e : EncodeError) → IsErr r × IsErrAnd r (λ x. x ≡ e) → F e → IfErr r F
 stopped F (Ok x) e a h = absurd a.1
 stopped F (Err x) e a h = subst F (sym a.1) h
-
--- There is the text that memory was lacking for.
-pub lacked : {A : Type 0} (P : List ℕ → Type 0) (r : Result A EncodeError) → IfErr r (λ e. e ≡ errors.Memory → (n : ℕ) × HasLength P n × (1 ≤ n))
-    → IfErr r (λ e. e ≡ errors.Memory → (text : List ℕ) × P text)
-lacked P (Ok x) h = tt
-lacked P (Err e) h = λ m. let k = h m in (k.1.text, k.1.is)
 
 -- What is known before holds of each error.
 pub known : {A : Type 0} (F : EncodeError → Type 0) (r : Result A EncodeError) → ((e : EncodeError) → F e) → IfErr r F

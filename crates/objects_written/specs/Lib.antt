@@ -1,6 +1,3 @@
-pub mod Outputs
-pub mod Roas
-pub mod Manifests
 pub mod Orders
 pub mod Attributes
 pub mod Frames
@@ -18,9 +15,7 @@ pub use Rattle.certs_key.specs.bcder_values as bcder_values
 pub use Rattle.certs_key.specs.certs_basics as certs_basics
 pub use Rattle.objects_payload.specs as objects_payload
 pub use Rattle.objects_cms.specs as objects_cms
-pub use Rattle.objects_payload.specs.resources_asn as resources_asn
 pub use Rattle.certs_cert.specs.resources_chain as resources_chain
-pub use Rattle.objects_payload.specs.resources_ip_prefix as resources_ip_prefix
 pub use Rattle.certs.specs.certs_key as certs_key
 pub use Rattle.objects_payload.specs.certs_extension as certs_extension
 pub use Rattle.certs.specs as certs

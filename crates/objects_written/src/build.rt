@@ -14,7 +14,7 @@ ghost use Rattle.objects_written.specs.certs.Tbs.{WritesTbs};
 ghost use Rattle.objects_written.specs.Attributes.{IsMessage, IsRefused, WritesAttributes, to_sign};
 ghost use Rattle.objects_written.specs.bcder_values.Writable.{Writable};
 ghost use Rattle.objects_written.specs.Builders.{AreFieldsOf, IsBuilt, IsSigned, SignsAttributes, WritesObject, with_places, with_resources};
-ghost use Rattle.objects_written.specs.Refusing.{BuildRefused, CanTell, CannotBuild, CannotCertify, CannotEnclose, CannotSign, CannotWrap, IsTooLong};
+ghost use Rattle.objects_written.specs.Refusing.{BuildRefused, CanTell, CannotBuild, CannotCertify, CannotEnclose, CannotSign, CannotWrap, ObjectRefused, RefusesAttributes, RefusesMessage, RefusesToCertify, RefusesToSign, refusals_of};
 
 pub mod laws;
 
@@ -85,7 +85,8 @@ fn sign<S: Signer>(
     ensures signed { IfOk result (λ made. SignsAttributes (S.signs_once signer.now)
         attributes.now.octets made.1 made.0.bits.octets) }
     ensures padded { IfOk result (λ made. IsPadded Der made.1.bits) }
-    ensures refused { IfErr result (BuildRefused (S.refuses signer.now) (Unit {0})
+    ensures refused { IfErr result (BuildRefused
+        (RefusesMessage (S.refuses_once signer.now) attributes.now.octets) (Unit {0})
         (Writable (IsMessage attributes.now.octets) → ⊥)) }
 {
     match signed_message(alloc, attributes) {
@@ -112,7 +113,9 @@ fn sign_content<S: Signer, D: Digester>(
     ensures signed { IfOk result (λ s. SignsAttributes (S.signs_once signer.now)
         s.attributes.octets s.key s.signature.bits.octets) }
     ensures padded { IfOk result (λ s. IsPadded Der s.key.bits) }
-    ensures refused { IfErr result (BuildRefused (S.refuses signer.now)
+    ensures refused { IfErr result (BuildRefused (RefusesAttributes (S.refuses_once signer.now)
+        (to_sign content.now.content_type.now
+        (D.sha256_digest digester.now content.now.octets.now) time))
         (CanTell content.now.content_type.now)
         (CannotSign (to_sign content.now.content_type.now
         (D.sha256_digest digester.now content.now.octets.now) time))) }
@@ -269,7 +272,10 @@ fn certify<S: Signer, D: Digester>(
     ensures algorithm { IfOk result (λ c. c.signed.has_null ≡ c.tbs.has_null) }
     ensures signed { IfOk result (λ c. S.signs issuer.now.signer.now issuer.now.key.now
         c.signed.message c.signed.signature) }
-    ensures refused { IfErr result (BuildRefused (S.refuses issuer.now.signer.now) (Unit {0})
+    ensures refused { IfErr result (BuildRefused
+        (RefusesToCertify (S.refuses issuer.now.signer.now issuer.now.key.now)
+        (digests_of D.sha256_digest D.sha1_digest digester.now)
+        builder issuer.now.public.now key) (Unit {0})
         (CannotCertify (digests_of D.sha256_digest D.sha1_digest digester.now)
         builder issuer.now.public.now key)) }
 {
@@ -351,7 +357,10 @@ fn with_cert<S: Signer, D: Digester>(
         (S.signs issuer.now.signer.now issuer.now.key.now)
         (S.signs_once issuer.now.signer.now) x) }
     ensures mode { IfOk result (λ c. c.mode ≡ Der) }
-    ensures refused { IfErr result (BuildRefused (S.refuses issuer.now.signer.now) (Unit {0})
+    ensures refused { IfErr result (BuildRefused
+        (RefusesToCertify (S.refuses issuer.now.signer.now issuer.now.key.now)
+        (digests_of D.sha256_digest D.sha1_digest digester.now)
+        builder issuer.now.public.now signed.key) (Unit {0})
         (CannotWrap (digests_of D.sha256_digest D.sha1_digest digester.now) builder
         content.now.content_type.now content.now.octets.now issuer.now.public.now
         signed.key signed.attributes signed.signature.bits.octets)) }
@@ -397,7 +406,11 @@ fn build<S: Signer, D: Digester>(
         (S.signs issuer.now.signer.now issuer.now.key.now)
         (S.signs_once issuer.now.signer.now) x) }
     ensures mode { IfOk result (λ c. c.mode ≡ Der) }
-    ensures refused { IfErr result (BuildRefused (S.refuses issuer.now.signer.now)
+    ensures refused { IfErr result (BuildRefused (RefusesToSign (refusals_of S.refuses_key S.refuses
+        S.refuses_once issuer.now.signer.now issuer.now.key.now)
+        (digests_of D.sha256_digest D.sha1_digest digester.now) builder
+        content.now.content_type.now content.now.octets.now
+        (S.signs_once issuer.now.signer.now) issuer.now.public.now)
         (CanTell content.now.content_type.now)
         (CannotSign (to_sign content.now.content_type.now
         (D.sha256_digest digester.now content.now.octets.now) builder.signing_time) ⊎ CannotBuild
@@ -439,10 +452,10 @@ impl SignedObjectBuilder {
             content.now c.octets) × IsSigned (S.has_key signer.now issuer_key.now)
             (S.signs signer.now issuer_key.now) (S.signs_once signer.now) x) }
         ensures mode { IfOk result (λ c. c.mode ≡ Der) }
-        ensures refused { IfErr result (BuildRefused (S.refuses signer.now)
-            (CanTell content_type.now) (IsTooLong
+        ensures refused { IfErr result (ObjectRefused
+            (refusals_of S.refuses_key S.refuses S.refuses_once signer.now issuer_key.now)
             (digests_of D.sha256_digest D.sha1_digest digester.now) self content_type.now
-            content.now (S.has_key signer.now issuer_key.now) (S.signs_once signer.now))) }
+            content.now (S.has_key signer.now issuer_key.now) (S.signs_once signer.now)) }
     {
         match signer.get_key_info(alloc, issuer_key) {
             Ok(public) => {

@@ -1,4 +1,5 @@
 pub mod Reading
+mod Beginning
 pub mod DigestWords
 mod Agree
 pub mod Numbered

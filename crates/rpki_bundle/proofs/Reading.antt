@@ -6,21 +6,20 @@ use Rattle.std.specs.Result.{IsErrAnd}
 use Rattle.rpki_bundle.specs.bcder_tree.declared.mode.Mode.{Mode}
 use Rattle.rpki_bundle.specs.bcder_tree.declared.mode.Mode.TheVariants.{Der}
 use Rattle.rpki_bundle.specs.bcder_tree.Tags.{TagValue}
-use Rattle.rpki_bundle.specs.bcder_tree.Tree.{Tree, Trees, primitive, SpellsAll}
+use Rattle.rpki_bundle.specs.bcder_tree.Tree.{Tree, Trees, SpellsAll}
 use Rattle.rpki_bundle.specs.bcder_source.Errors.{OnContent}
 use Rattle.rpki_bundle.specs.bcder_source.Views.{limited, more_limit}
 use Rattle.rpki_bundle.specs.bcder_source.declared.error.DecodeError.{DecodeError}
 use Rattle.rpki_bundle.specs.bcder_source.declared.error.DecodeError.TheVariants.{Content, Source, Memory}
-use Rattle.rpki_bundle.specs.bcder_primitive.Values.{AnyOctets}
 use Rattle.rpki_bundle.specs.bcder_content.declared.constructed.Constructed.{Constructed}
 use Rattle.rpki_bundle.specs.bcder_content.Contents.{ValuesLeft, octets, EndsHere, TookAll, Ended, Whole}
-use Rattle.rpki_bundle.specs.bcder_content.Exact.{Gives, Lacks, ReadsAs, ReadsOptAs, LacksAll, ReadsAllAs}
-use Rattle.rpki_bundle.specs.bcder_content.Grammar.{OctetsOf, As, End}
+use Rattle.rpki_bundle.specs.bcder_content.Exact.{ReadsAs, ReadsOptAs, LacksAll, ReadsAllAs}
+use Rattle.rpki_bundle.specs.bcder_content.Grammar.{As, End}
 use Rattle.rpki_bundle.specs.bcder_content.Here.{here}
 use Rattle.rpki_bundle.specs.bcder_content.ClosureReads.{Reader, fresh, ClosureReadsIn, refused_in, failed_in, DecodedCases, Decoded}
 use Rattle.rpki_bundle.proofs.of_bcder_content.Choices.{as_gives, as_lacks, as_lacks_tagged}
 use Rattle.rpki_bundle.proofs.of_bcder_content.Taking.{weaker}
-use Rattle.rpki_bundle.proofs.of_bcder_content.Took.{one_took, whole_none}
+use Rattle.rpki_bundle.proofs.of_bcder_content.Took.{whole_none}
 use Rattle.rpki_bundle.proofs.of_bcder_values.Returning.{all_read}
 use Rattle.rpki_bundle.specs.declared.error.BundleError.{BundleError}
 use Rattle.rpki_bundle.specs.declared.whole.Parts.{Parts}
@@ -39,24 +38,6 @@ pub opt_meaning : {A B C E : Type 0} (f : A → B) (g : B → C) (tag : TagValue
 opt_meaning f g tag Q old new (Ok (Some x)) h = as_gives g h
 opt_meaning f g tag Q old new (Ok None) h = h
 opt_meaning f g tag Q old new (Err e) h = weaker e (as_lacks_tagged g) h
-
--- Octets that were read mean something, or nothing.
-pub octets_mean : {A : Type 0} {tag : TagValue} {P : List ℕ → A → Type 0} {now new : ValuesLeft} {text : List ℕ} {x : A} → Gives (OctetsOf tag AnyOctets) now text new → P text x → Gives (OctetsOf tag P) now x new
-octets_mean {tag = tag} {text = text} g p = record { tree = g.tree; is = record { content = text; whole = g.is.whole ∙ ap (λ (z : List ℕ). primitive tag z) g.is.is.same; is = p }; took = g.took }
-
-pub octets_lack : {A : Type 0} {tag : TagValue} {P : List ℕ → A → Type 0} {now : ValuesLeft} → Lacks (OctetsOf tag AnyOctets) now → Lacks (OctetsOf tag P) now
-octets_lack l = record { none = λ t x p a. l.none t p.content (record { content = p.content; whole = p.whole; is = record { same = refl } }) a }
-
-pub octets_refused : {A : Type 0} {tag : TagValue} {P : List ℕ → A → Type 0} {now new : ValuesLeft} {text : List ℕ} → Gives (OctetsOf tag AnyOctets) now text new → ((x : A) → P text x → ⊥) → Lacks (OctetsOf tag P) now
-octets_refused {A} {tag} {P} {text = text} g refuses = record {
-  none = λ t x p a.
-      let same : g.tree ≡ t = (one_took g.took a.1).0 in
-      let left : g.tree ≡ primitive tag g.is.content = g.is.whole in
-      let right : t ≡ primitive tag p.content = p.whole in
-      let means : g.is.content ≡ text = g.is.is.same in
-      let content : p.content ≡ text = cc in
-      refuses x (subst (λ (z : List ℕ). P z x) content p.is);
-}
 
 -- Where a content goes on, it hasn't ended.
 pub end_lacks : {v : ValuesLeft} → (Ended v → ⊥) → LacksAll End v

@@ -8,7 +8,8 @@ ghost use Rattle.rpki_bundle.specs.Orders.{Ascends};
 ghost use Rattle.rpki_bundle.specs.Objects.{IsAt};
 ghost use Rattle.rpki_bundle.specs.declared.error.BundleError.TheVariants.{NotABundle as not_a_bundle};
 ghost use Rattle.rpki_bundle.specs.Ends.{Refuses};
-ghost use Rattle.rpki_bundle.specs.Errors.{OnNotABundle};
+ghost use Rattle.rpki_bundle.specs.Begun.{BeginsText};
+ghost use Rattle.rpki_bundle.specs.Errors.{OnMemory, OnNotABundle};
 ghost use Rattle.rpki_bundle.specs.PartFields.{parts_value};
 ghost use Rattle.rpki_bundle.specs.Bundle.{BundleText, IsSpelled};
 ghost use Rattle.rpki_bundle.specs.declared.version.Version.TheVariants.{Zero as version_0, One as version_1};
@@ -252,11 +253,12 @@ impl Bundle {
     /// Reads a bundle, in DER.
     ///
     /// `NotABundle` where the octets, all of them, are none: octets after the value are refused. `Memory` where a
-    /// growth was refused.
+    /// growth was refused, which comes only of octets that begin as a bundle's: version, moment, depth and flag were good.
     pub fn decode(alloc: Global, octets: &[u8]) -> Result<Bundle, BundleError>
         ensures ok { IfOk result (BundleText octets.now) }
         ensures not_a_bundle { IfErr result
             (λ e. OnNotABundle e ((b : BundleValue) → BundleText octets.now b → ⊥)) }
+        ensures memory { IfErr result (λ e. OnMemory e (BeginsText octets.now)) }
     {
         match read_whole(alloc, octets) {
             Ok(parts) => Ok(bundle_of(parts)),
@@ -270,6 +272,7 @@ impl Bundle {
         ensures ok { IfOk result (BundleText octets) }
         ensures not_a_bundle { IfErr result
             (λ e. OnNotABundle e ((b : BundleValue) → BundleText octets b → ⊥)) }
+        ensures memory { IfErr result (λ e. OnMemory e (BeginsText octets)) }
     {
         match read_whole(alloc, octets) {
             Ok(parts) => Ok(bundle_of(parts)),

@@ -1,18 +1,15 @@
 //! The fields of bundles and of their entries, read by the codec.
 
-ghost use Rattle.std.specs.Prelude.{◌↔◌, ◌≡◌, ◌≤◌, IsTrue, OnErr, true};
+ghost use Rattle.std.specs.Prelude.{◌↔◌, ◌≡◌, ◌≢◌, ◌≤◌, IfErr, IsTrue, OnErr, true};
 ghost use Rattle.rpki_bundle.specs.bcder_tree.Strings.{IsOctetString};
-ghost use Rattle.rpki_bundle.specs.bcder_tree.Tags.{generalized_time_tag};
+ghost use Rattle.rpki_bundle.specs.bcder_source.declared.error.DecodeError.TheVariants.{Memory};
 ghost use Rattle.rpki_bundle.specs.bcder_content.Exact.{ReadsAs};
-ghost use Rattle.rpki_bundle.specs.bcder_content.Grammar.{OctetsOf};
 ghost use Rattle.rpki_bundle.specs.bcder_content.Here.{here, plain};
 ghost use Rattle.rpki_bundle.specs.bcder_primitive.Plain.{ReadsOctetsAs};
-ghost use Rattle.rpki_bundle.specs.bcder_primitive.Values.{AnyOctets};
-ghost use Rattle.rpki_bundle.specs.Bundle.{IsDepthNumber, IsDigest, IsDigestString, IsMomentString, IsNameString, IsUriString, IsWord};
+ghost use Rattle.rpki_bundle.specs.Bundle.{IsDepthNumber, IsDigest, IsDigestString, IsNameString, IsUriString, IsWord};
 ghost use Rattle.rpki_bundle.specs.Lawful.{IsName};
 ghost use Rattle.rpki_bundle.specs.Words.{octets_of};
 
-use crate::Time;
 use crate::limits::{MAX_DEPTH, MIN_DEPTH};
 use crate::uri::is_lookup_key;
 use crate::words::DigestWords;
@@ -136,48 +133,12 @@ pub fn take_digest<S: Source>(
     )
 }
 
-// The octets of a time.
-fn take_text<S: Source>(
-    alloc: Global,
-    cons: &mut Constructed<S>,
-) -> Result<Bytes, DecodeError<S::Error>>
-    ensures reads { ReadsAs (λ octets. octets) (OctetsOf generalized_time_tag AnyOctets)
-        (here S.rest cons.old) result (here S.rest cons.new) }
-    ensures failed { OnErr result ((here S.rest cons.new).failed ≡ true) }
-{
-    cons.take_primitive_if(
-        Tag::GENERALIZED_TIME,
-        |prim|
-            ensures { ReadsOctetsAs (λ octets. octets) AnyOctets (plain S.rest prim.old) result
-                (plain S.rest prim.new) }
-        { prim.take_all(alloc) },
-    )
-}
-
-/// A moment.
-pub fn take_moment<S: Source>(
-    alloc: Global,
-    cons: &mut Constructed<S>,
-) -> Result<Time, DecodeError<S::Error>>
-    ensures reads { ReadsAs (λ moment. moment) IsMomentString (here S.rest cons.old) result
-        (here S.rest cons.new) }
-    ensures failed { OnErr result ((here S.rest cons.new).failed ≡ true) }
-{
-    let text = take_text(alloc, cons)?;
-    match Time::from_generalized(text.as_slice()) {
-        Some(moment) => Ok(moment),
-        None => {
-            cons.fail();
-            Err(cons.content_err(ContentError::from_static("a moment is YYYYMMDDHHMMSSZ")))
-        }
-    }
-}
-
 /// A depth, from `MIN_DEPTH` to `MAX_DEPTH`.
 pub fn take_depth<S: Source>(cons: &mut Constructed<S>) -> Result<u8, DecodeError<S::Error>>
     ensures reads { ReadsAs (λ depth. depth) IsDepthNumber (here S.rest cons.old) result
         (here S.rest cons.new) }
     ensures failed { OnErr result ((here S.rest cons.new).failed ≡ true) }
+    ensures no_memory { IfErr result (λ e. e ≢ Memory) }
 {
     let depth = cons.take_u8()?;
     if !is_depth(depth) {

@@ -1,15 +1,17 @@
 //! Bundles, read by the codec up to the end of their octets.
 
-ghost use Rattle.std.specs.Prelude.{◌≡◌, OnErr, true};
+ghost use Rattle.std.specs.Prelude.{◌≡◌, IfErr, OnErr, true};
 ghost use Rattle.rpki_bundle.specs.bcder_content.Exact.{ReadsAs};
 ghost use Rattle.rpki_bundle.specs.bcder_content.Here.{here};
 ghost use Rattle.rpki_bundle.specs.bcder_content.InMode.{ReadsFields};
+ghost use Rattle.rpki_bundle.specs.bcder_content.Memory.{OnMemory};
+ghost use Rattle.rpki_bundle.specs.Begun.{BeginsBundle, BeginsFields, BeginsText, Found};
 ghost use Rattle.rpki_bundle.specs.Ends.{ReadsToEndAs};
 ghost use Rattle.rpki_bundle.specs.Bundle.{AreBundleFields, AreLists, IsBundle};
 ghost use Rattle.rpki_bundle.specs.PartFields.{IsBundleAlone, TellsBundle, entries_fields, parts_alone, parts_fields, parts_value};
 
 use crate::entries::take_list;
-use crate::reader::{take_depth, take_moment};
+use crate::reader::take_depth;
 use crate::{Locator, Object, Time, Verdict, Version};
 use certs_key::Mode;
 use certs_key::decode::{Constructed, ContentError, Decode, DecodeError, IntoSource, Source};
@@ -57,16 +59,18 @@ fn take_entries<S: Source>(
     })
 }
 
-// The fields of a bundle, up to the end of their content. In version 1 a flag stands in front of the lists.
+// The fields of a bundle, up to the end of their content. In version 1 a flag stands in front of the lists. Nothing before
+// the lists takes memory.
 fn take_parts<S: Source>(
     alloc: Global,
     cons: &mut Constructed<S>,
 ) -> Result<Parts, DecodeError<S::Error>>
-    ensures { ReadsFields parts_fields AreBundleFields (here S.rest cons.old) result
+    ensures reads { ReadsFields parts_fields AreBundleFields (here S.rest cons.old) result
         (here S.rest cons.new) }
+    ensures begins { Found result (BeginsFields (here S.rest cons.old)) }
 {
     let number = cons.take_u8()?;
-    let moment = take_moment(alloc, cons)?;
+    let moment = Time::take_generalized_from(cons)?;
     let depth = take_depth(cons)?;
     if number == 0 {
         let entries = take_entries(alloc, cons)?;
@@ -99,11 +103,13 @@ fn take_bundle<S: Source>(
     ensures reads { ReadsAs parts_value (IsBundle (here S.rest cons.old).mode)
         (here S.rest cons.old) result (here S.rest cons.new) }
     ensures failed { OnErr result ((here S.rest cons.new).failed ≡ true) }
+    ensures begins { Found result (BeginsBundle (here S.rest cons.old)) }
 {
     cons.take_sequence(
         |cons|
-            ensures { ReadsFields parts_fields AreBundleFields
+            ensures reads { ReadsFields parts_fields AreBundleFields
                 (here S.rest cons.old) result (here S.rest cons.new) }
+            ensures begins { Found result (BeginsFields (here S.rest cons.old)) }
         { take_parts(alloc, cons) },
     )
 }
@@ -116,6 +122,7 @@ fn take_alone<S: Source>(
     ensures reads { ReadsToEndAs parts_alone (IsBundleAlone (here S.rest cons.old).mode)
         (here S.rest cons.old) result (here S.rest cons.new) }
     ensures failed { OnErr result ((here S.rest cons.new).failed ≡ true) }
+    ensures memory { IfErr result (λ e. OnMemory e (BeginsBundle (here S.rest cons.old))) }
 {
     let parts = take_bundle(alloc, cons)?;
     let behind = cons.skip_one(alloc)?;
@@ -126,19 +133,22 @@ fn take_alone<S: Source>(
     Ok(parts)
 }
 
-/// What all octets of a source tell of a bundle, in DER.
+/// What all octets of a source tell of a bundle, in DER. `Memory` only where they begin as one, up to its lists.
 pub fn read_whole<I: IntoSource>(
     alloc: Global,
     source: I,
 ) -> Result<Parts, DecodeError<<I::Source as Source>::Error>>
-    ensures { TellsBundle (I.octets source) result }
+    ensures tells { TellsBundle (I.octets source) result }
+    ensures memory { IfErr result (λ e. OnMemory e (BeginsText (I.octets source))) }
 {
     Mode::Der.decode(
         source,
         |cons|
-            ensures { ReadsToEndAs parts_alone
+            ensures reads { ReadsToEndAs parts_alone
                 (IsBundleAlone (here I.Source.rest cons.old).mode) (here I.Source.rest cons.old)
                 result (here I.Source.rest cons.new) }
+            ensures memory { IfErr result
+                (λ e. OnMemory e (BeginsBundle (here I.Source.rest cons.old))) }
         { take_alone(alloc, cons) },
     )
 }

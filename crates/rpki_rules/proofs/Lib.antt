@@ -31,11 +31,6 @@ pub mod Orders
 pub mod Sets
 pub mod Groups
 pub mod Pieces
-mod RelaxedForms
-mod RelaxedValues
-mod RelaxedCerts
-pub mod RelaxedObjects
-pub mod RelaxedInspected
 pub mod of_bcder_tree
 pub mod of_certs_basics
 pub mod of_objects_payload

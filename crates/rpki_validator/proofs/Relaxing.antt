@@ -1,8 +1,8 @@
 -- A world in which signed objects are read relaxed attests all that it attests where they are read strictly.
 use Rattle.std.proofs.Common.{ℕ, true, false, List, [], ◌∷◌, inl, inr}
 use Rattle.rpki_rules.specs.Relaxed.{relaxed, relaxed_cert}
-use Rattle.rpki_rules.proofs.RelaxedObjects.{aspas_stay, manifests_stay, roas_stay}
-use Rattle.rpki_rules.proofs.RelaxedInspected.{passes_relaxed, sound_relaxed}
+use Rattle.rpki_rules.proofs.of_objects_payload.RelaxedObjects.{aspas_stay, manifests_stay, roas_stay}
+use Rattle.rpki_rules.proofs.of_objects_payload.RelaxedInspected.{passes_relaxed, sound_relaxed}
 use Rattle.rpki_rules.specs.certs_extension.declared.forms.Role.TheVariants.{Ee}
 use Rattle.rpki_rules.specs.Certs.{Cert}
 use Rattle.rpki_rules.specs.Objects.{File, Manifest, Object}

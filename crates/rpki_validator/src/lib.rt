@@ -4,14 +4,13 @@
 #![tactic(auto)]
 
 pub mod bundles;
-pub mod counted;
 pub mod laws;
 pub mod programs;
 pub mod runs;
 pub mod streams;
 
 pub use bundles::{cost, diagnose, judge, judge_by, naming_chains, reach, walk, walk_lines};
-pub use counted::Counted;
+pub use objects_payload::counted::Counted;
 pub use rpki_bundle::uri::lookup_key;
 pub use rpki_bundle::{Bundle, BundleError, Digester, Locator, Object, Time, Verdict, Version};
 pub use rpki_rules::lines::render;

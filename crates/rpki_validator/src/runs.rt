@@ -10,9 +10,9 @@ ghost use Rattle.rpki_validator.specs.Run.{BundleFails, IsNoBundle, ReadsBundle,
 ghost use Rattle.rpki_validator.specs.declared.runs.RunError.TheVariants.{Memory as memory_error};
 
 use crate::bundles::walk_lines;
-use crate::counted::Counted;
 use crate::streams::{ReadFault, read_all, write_all};
 use bytes::Bytes;
+use objects_payload::counted::Counted;
 use rpki_bundle::laws::bundle_length;
 use rpki_bundle::{Bundle, BundleError, Digester};
 use rpki_rules::Report;

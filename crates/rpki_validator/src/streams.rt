@@ -4,7 +4,7 @@ ghost use Rattle.rpki_validator.specs.declared.streams.ReadFault.TheVariants.{Me
 ghost use Rattle.std.specs.Io.KnownBytes.{Appends, Consumes};
 ghost use Rattle.std.specs.Prelude.{◌≡◌, ℕ, ◌+◌, ◌-◌, ◌^◌, ◌<◌, ◌≤◌, List, length, IfOk, OnOk, OnErr, MatchResult};
 
-use crate::counted::Counted;
+use objects_payload::counted::Counted;
 use std::alloc::{AllocError, Global};
 use std::io::{Read, Write};
 

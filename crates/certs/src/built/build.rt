@@ -33,7 +33,7 @@ fn signed_by<S: Signer>(
     ensures algorithm { IfOk result (λ signed. signed.signature.algorithm ≡ tbs.now.has_null) }
     ensures signed { IfOk result (λ signed. S.signs signer.now key.now
         signed.message.octets signed.signature.bits.octets) }
-    ensures refused { IfErr result (SigningRefused (S.refuses signer.now) tbs.now) }
+    ensures refused { IfErr result (SigningRefused (S.refuses signer.now key.now) tbs.now) }
 {
     let message = match message_of(alloc, tbs) {
         Ok(message) => message,
@@ -70,7 +70,8 @@ pub trait BuildCert: Sized {
         ensures algorithm { IfOk result (λ cert. cert.signed.has_null ≡ (fields self).has_null) }
         ensures signed { IfOk result (λ cert. S.signs signer.now key.now
             cert.signed.message cert.signed.signature) }
-        ensures refused { IfErr result (SigningRefused (S.refuses signer.now) (fields self)) };
+        ensures refused { IfErr result
+            (SigningRefused (S.refuses signer.now key.now) (fields self)) };
 }
 
 impl BuildCert for TbsCert {

@@ -5,9 +5,9 @@ ghost use Rattle.objects.specs.bcder_tree.declared.mode.Mode.TheVariants.{Der};
 ghost use Rattle.objects.specs.certs_key.Digesting.{digests_of};
 ghost use Rattle.objects.specs.resources_chain.declared.choice.ResourcesChoice.TheVariants.{Missing};
 ghost use Rattle.objects_written.specs.Builders.{IsSigned};
-ghost use Rattle.objects_written.specs.Refusing.{BuildRefused};
+ghost use Rattle.objects_written.specs.Refusing.{BuildRefused, refusals_of};
 ghost use Rattle.objects.specs.bcder_values.Writable.{Writable};
-ghost use Rattle.objects.specs.Refusing.{CanWrite, CannotSignContent};
+ghost use Rattle.objects.specs.Refusing.{CanWrite, ContentRefused};
 ghost use Rattle.objects.specs.objects_payload.Identifiers as id;
 ghost use Rattle.objects.specs.Attested.{AttestsCustomer, IsAspaFor};
 ghost use Rattle.objects.specs.Written.{aspa};
@@ -78,11 +78,12 @@ fn sign<S: Signer, D: Digester>(
         c.octets) × IsSigned (S.has_key signer.now issuer_key.now)
         (S.signs signer.now issuer_key.now) (S.signs_once signer.now) x.built) }
     ensures mode { IfOk result (λ c. c.mode ≡ Der) }
-    ensures refused { IfErr result (BuildRefused (S.refuses signer.now)
-        (CanWrite ((aspa attestation.now).writes Der)) (CannotSignContent
+    ensures refused { IfErr result (ContentRefused
+        (refusals_of S.refuses_key S.refuses S.refuses_once signer.now issuer_key.now)
         (digests_of D.sha256_digest D.sha1_digest digester.now)
         (S.has_key signer.now issuer_key.now) (S.signs_once signer.now)
-        id.provider_authorization ((aspa attestation.now).writes Der) (AttestsCustomer builder attestation.now))) }
+        id.provider_authorization ((aspa attestation.now).writes Der)
+        (AttestsCustomer builder attestation.now)) }
 {
     match content_of(alloc, attestation) {
         Ok(content) => match attesting(alloc, builder, attestation) {
@@ -132,11 +133,11 @@ impl AspaBuilder {
             × IsSigned (S.has_key signer.now issuer_key.now)
             (S.signs signer.now issuer_key.now) (S.signs_once signer.now) x.built) }
         ensures mode { IfOk result (λ c. c.mode ≡ Der) }
-        ensures refused { IfErr result (BuildRefused (S.refuses signer.now)
-            (CanWrite ((aspa self).writes Der)) (CannotSignContent
+        ensures refused { IfErr result (ContentRefused
+            (refusals_of S.refuses_key S.refuses S.refuses_once signer.now issuer_key.now)
             (digests_of D.sha256_digest D.sha1_digest digester.now)
             (S.has_key signer.now issuer_key.now) (S.signs_once signer.now)
-            id.provider_authorization ((aspa self).writes Der) (AttestsCustomer builder self))) }
+            id.provider_authorization ((aspa self).writes Der) (AttestsCustomer builder self)) }
     {
         let octets = sign(alloc, &self, builder, signer, issuer_key, digester);
         drop(self);

@@ -12,7 +12,7 @@ use crate::attested::builder::AspaBuilder;
 use certs::written::{Context0, Sequence, Version};
 use certs_key::encode::{EncodeError, Iter, Values, Walk};
 use certs_key::{Captured, Mode};
-use objects_written::roa::AsIdValue;
+use objects_contents::roa::AsIdValue;
 use resources_asn::Asn;
 use std::alloc::Global;
 use std::io::Write;

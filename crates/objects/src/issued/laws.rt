@@ -4,14 +4,14 @@ ghost use Rattle.std.specs.Prelude.{ℕ, List, true};
 ghost use Rattle.objects.specs.certs_basics.HandedIn.{Digests};
 ghost use Rattle.objects.specs.objects_payload.Manifests.{Manifest, ManifestText};
 ghost use Rattle.objects.specs.objects_payload.Roas.{Roa, RoaText};
-ghost use Rattle.objects.specs.objects_written.Manifests.{AreFileNames};
-ghost use Rattle.objects.specs.objects_written.Roas.{AreOfFamilies, HasAddress};
+ghost use Rattle.objects.specs.objects_contents.Manifests.{AreFileNames};
+ghost use Rattle.objects.specs.objects_contents.Roas.{AreOfFamilies, HasAddress};
 ghost use Rattle.resources_ip.specs.WholeSets.{ListsWhole};
 ghost use Rattle.objects_written.specs.Builders.{BuilderValue, built_object};
 ghost use Rattle.objects.specs.Issued.{IsManifestFor, IsRoaFor};
 
+use objects_contents::laws::{attestations_are_read_again, manifests_are_read_again};
 use objects_written::build::laws::built_kinds_are_read_again;
-use objects_written::laws::{attestations_are_read_again, manifests_are_read_again};
 
 /// A manifest that is signed is read again, strictly, as the same manifest, where its files have names of the profile.
 pub fn signed_manifests_are_read_again()

@@ -5,19 +5,20 @@ ghost use Rattle.objects.specs.bcder_tree.declared.mode.Mode.TheVariants.{Der};
 ghost use Rattle.objects.specs.certs_key.Digesting.{digests_of};
 ghost use Rattle.objects.specs.objects_payload.Manifests.{Manifest};
 ghost use Rattle.objects_written.specs.Builders.{IsBuilt, IsSigned};
-ghost use Rattle.objects_written.specs.Refusing.{BuildRefused};
+ghost use Rattle.objects_written.specs.Refusing.{BuildRefused, refusals_of};
 ghost use Rattle.objects.specs.bcder_values.Writable.{Writable};
-ghost use Rattle.objects.specs.Refusing.{CanWrite, CannotSignContent};
+ghost use Rattle.objects.specs.Refusing.{CanWrite, ContentRefused};
 ghost use Rattle.objects.specs.Issued.{IsManifestFor, inheriting};
 ghost use Rattle.objects.specs.objects_payload.Identifiers as id;
-ghost use Rattle.objects.specs.objects_written.Manifests.{IsManifestNumber, manifest};
+ghost use Rattle.objects.specs.objects_contents.Manifests.{IsManifestNumber, manifest};
 
 use certs_key::laws::serials_are_small;
 use certs_key::oid::CT_RPKI_MANIFEST;
 use certs_key::{Captured, Digester, Signer, SigningError};
 use objects_cms::manifest::ManifestContent;
+use objects_contents::EncodeManifest;
+use objects_written::SignedObjectBuilder;
 use objects_written::causes::unwritten;
-use objects_written::{EncodeManifest, SignedObjectBuilder};
 use std::alloc::Global;
 
 // The content of a manifest, in DER; its number is one that a manifest may have.
@@ -73,11 +74,12 @@ pub trait IntoManifest: Sized {
             c.octets) × IsSigned (S.has_key signer.now issuer_key.now)
             (S.signs signer.now issuer_key.now) (S.signs_once signer.now) x.built) }
         ensures mode { IfOk result (λ c. c.mode ≡ Der) }
-        ensures refused { IfErr result (BuildRefused (S.refuses signer.now)
-            (CanWrite ((manifest (content self)).writes Der)) (CannotSignContent
+        ensures refused { IfErr result (ContentRefused
+            (refusals_of S.refuses_key S.refuses S.refuses_once signer.now issuer_key.now)
             (digests_of D.sha256_digest D.sha1_digest digester.now)
             (S.has_key signer.now issuer_key.now) (S.signs_once signer.now)
-            id.manifest ((manifest (content self)).writes Der) (λ fields. fields ≡ inheriting builder))) };
+            id.manifest ((manifest (content self)).writes Der)
+            (λ fields. fields ≡ inheriting builder)) };
 }
 
 impl IntoManifest for ManifestContent {
@@ -120,11 +122,12 @@ fn sign<S: Signer, D: Digester>(
         content.octets c.octets) × IsSigned (S.has_key signer.now issuer_key.now)
         (S.signs signer.now issuer_key.now) (S.signs_once signer.now) x) }
     ensures mode { IfOk result (λ c. c.mode ≡ Der) }
-    ensures refused { (m : Manifest) → (manifest m).writes Der content.octets → IfErr result
-        (BuildRefused (S.refuses signer.now) (CanWrite ((manifest m).writes Der))
-        (CannotSignContent (digests_of D.sha256_digest D.sha1_digest digester.now)
+    ensures refused { (m : Manifest) → (manifest m).writes Der content.octets
+        → IfErr result (ContentRefused
+        (refusals_of S.refuses_key S.refuses S.refuses_once signer.now issuer_key.now)
+        (digests_of D.sha256_digest D.sha1_digest digester.now)
         (S.has_key signer.now issuer_key.now) (S.signs_once signer.now)
-        id.manifest ((manifest m).writes Der) (λ fields. fields ≡ inheriting builder))) }
+        id.manifest ((manifest m).writes Der) (λ fields. fields ≡ inheriting builder)) }
 {
     let inheriting = inherits(builder);
     let octets = inheriting.finalize(

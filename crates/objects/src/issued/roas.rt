@@ -1,17 +1,18 @@
 //! Route origin attestations that are signed (RFC 9582 3, 5).
 
-ghost use Rattle.std.specs.Prelude.{◌≡◌, IfErr, IfOk};
+ghost use Rattle.std.specs.Prelude.{◌≡◌, ◌⊎◌, IfErr, IfOk};
 ghost use Rattle.objects.specs.bcder_tree.declared.mode.Mode.TheVariants.{Der};
 ghost use Rattle.objects.specs.certs_key.Digesting.{digests_of};
+ghost use Rattle.objects.specs.certs_key.declared.signer.SigningError.TheVariants.{Memory as no_memory};
 ghost use Rattle.objects.specs.objects_payload.Roas.{Roa};
-ghost use Rattle.objects.specs.objects_written.Roas.{roa};
+ghost use Rattle.objects.specs.objects_contents.Roas.{roa};
 ghost use Rattle.objects.specs.resources_chain.declared.choice.ResourcesChoice.TheVariants.{Missing};
 ghost use Rattle.objects.specs.resources_ip_prefix.declared.addr.AddressFamily.TheVariants.{Ipv4, Ipv6};
 ghost use Rattle.objects_payload.specs.Addresses.{AllOf};
 ghost use Rattle.objects_written.specs.Builders.{IsSigned};
-ghost use Rattle.objects_written.specs.Refusing.{BuildRefused};
+ghost use Rattle.objects_written.specs.Refusing.{BuildRefused, refusals_of};
 ghost use Rattle.objects.specs.bcder_values.Writable.{Writable};
-ghost use Rattle.objects.specs.Refusing.{CanWrite, CannotSignContent};
+ghost use Rattle.objects.specs.Refusing.{CanWrite, ContentRefused};
 ghost use Rattle.objects.specs.objects_payload.Identifiers as id;
 ghost use Rattle.objects.specs.Issued.{AttestsPrefixes, IsRoaFor};
 
@@ -19,9 +20,10 @@ use crate::issued::addresses::resources_of;
 use certs_extension::{AsResources, IpResources};
 use certs_key::oid::CT_ROUTE_ORIGIN_AUTHZ;
 use certs_key::{Captured, Digester, Signer, SigningError};
+use objects_contents::EncodeRoa;
 use objects_payload::roa::{RoaBuilder, RouteOriginAttestation};
+use objects_written::SignedObjectBuilder;
 use objects_written::causes::unwritten;
-use objects_written::{EncodeRoa, SignedObjectBuilder};
 use std::alloc::{AllocError, Global};
 
 // The content of an attestation, in DER.
@@ -96,11 +98,12 @@ fn sign<S: Signer, D: Digester>(
         c.octets) × IsSigned (S.has_key signer.now issuer_key.now)
         (S.signs signer.now issuer_key.now) (S.signs_once signer.now) x.built) }
     ensures mode { IfOk result (λ c. c.mode ≡ Der) }
-    ensures refused { IfErr result (BuildRefused (S.refuses signer.now)
-        (CanWrite ((roa attestation.now).writes Der)) (CannotSignContent
+    ensures refused { IfErr result (ContentRefused
+        (refusals_of S.refuses_key S.refuses S.refuses_once signer.now issuer_key.now)
         (digests_of D.sha256_digest D.sha1_digest digester.now)
         (S.has_key signer.now issuer_key.now) (S.signs_once signer.now)
-        id.route_origin ((roa attestation.now).writes Der) (AttestsPrefixes builder attestation.now))) }
+        id.route_origin ((roa attestation.now).writes Der)
+        (AttestsPrefixes builder attestation.now)) }
 {
     match content_of(alloc, attestation) {
         Ok(content) => match attesting(alloc, builder, attestation) {
@@ -138,7 +141,7 @@ pub trait FinalizeRoa: Sized {
     /// of the signer signs.
     ///
     /// What the signer refuses is refused as it says. It is `TooLong` where a content would have more than 2^32 - 1 octets,
-    /// and where a name is kept in another mode than DER.
+    /// and where a name is kept in another mode than DER. Memory is wanted for the attestation first.
     fn finalize<S: Signer, D: Digester>(
         self,
         alloc: Global,
@@ -157,11 +160,12 @@ pub trait FinalizeRoa: Sized {
             c.octets) × IsSigned (S.has_key signer.now issuer_key.now)
             (S.signs signer.now issuer_key.now) (S.signs_once signer.now) x.built) }
         ensures mode { IfOk result (λ c. c.mode ≡ Der) }
-        ensures refused { IfErr result (BuildRefused (S.refuses signer.now)
-            (Unit {0}) (CannotSignContent
+        ensures refused { IfErr result (λ e. (e ≡ no_memory) ⊎ ContentRefused
+            (refusals_of S.refuses_key S.refuses S.refuses_once signer.now issuer_key.now)
             (digests_of D.sha256_digest D.sha1_digest digester.now)
             (S.has_key signer.now issuer_key.now) (S.signs_once signer.now)
-            id.route_origin ((roa (content self)).writes Der) (AttestsPrefixes builder (content self)))) };
+            id.route_origin ((roa (content self)).writes Der)
+            (AttestsPrefixes builder (content self)) e) };
 }
 
 impl FinalizeRoa for RoaBuilder {

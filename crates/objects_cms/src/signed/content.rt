@@ -1,5 +1,6 @@
 //! The content of a signed object and its type (RFC 5652 5.2, RFC 6488 2.1.3).
 
+ghost use Rattle.std.specs.Prelude.{◌≡◌, OnErr, true};
 ghost use Rattle.objects_cms.specs.bcder_tree.Tags.{context};
 ghost use Rattle.objects_cms.specs.bcder_content.Exact.{ReadsAs};
 ghost use Rattle.objects_cms.specs.bcder_content.Grammar.{Inside};
@@ -62,8 +63,9 @@ pub fn take_content_info<S: Source>(
     alloc: Global,
     cons: &mut Constructed<S>,
 ) -> Result<Typed, DecodeError<S::Error>>
-    ensures { ReadsAs typed_fields (IsContentInfo (here S.rest cons.old).mode)
+    ensures reads { ReadsAs typed_fields (IsContentInfo (here S.rest cons.old).mode)
         (here S.rest cons.old) result (here S.rest cons.new) }
+    ensures failed { OnErr result ((here S.rest cons.new).failed ≡ true) }
 {
     cons.take_sequence(
         |cons|

@@ -4,9 +4,10 @@ ghost use Rattle.std.specs.Prelude.{◌≡◌, ◌≢◌, IfErr, List, ℕ, map}
 ghost use Rattle.objects_payload.specs.certs_basics.Keys.{KeyValue};
 ghost use Rattle.objects_payload.specs.Locators.{LocatorText, https_first};
 ghost use Rattle.objects_payload.specs.declared.locator.error.ReadError.TheVariants.{Memory};
-ghost use Rattle.objects_payload.specs.Tals.{ReadsNamed, ReadsTal};
+ghost use Rattle.objects_payload.specs.Tals.{FailsAtIo, ReadsNamed, ReadsTal};
 ghost use Rattle.objects_payload.specs.Uris.{text_of};
 
+use crate::counted::Counted;
 use crate::locator::error::ReadError;
 use crate::locator::key::read_key;
 use crate::locator::lines::skip_comments;
@@ -64,14 +65,17 @@ impl Tal {
     }
 
     /// The locator of that name that the reader's whole text is. The reader is read until a read gives no octet, and
-    /// nothing is retried. `Io` comes where it answers an error, or where it gives 2^32 octets; of a text that was read
-    /// whole all is answered as `from_text` does.
+    /// nothing is retried. `Io` comes where a read fails, which the reader's count of failures tells, or where it gives 2^32
+    /// octets; of a text that was read whole all is answered as `from_text` does.
     pub fn read_named<R: Read>(
         alloc: Global,
         name: String,
-        reader: &mut R,
+        reader: &mut Counted<R>,
     ) -> Result<Tal, ReadError>
-        ensures { ReadsNamed name (R.remaining reader.old) (R.remaining reader.new) result }
+        ensures reads { ReadsNamed name (R.remaining reader.old.inner)
+            (R.remaining reader.new.inner) result }
+        ensures failures { FailsAtIo (R.remaining reader.old.inner) (R.remaining reader.new.inner)
+            (record { before = reader.old.failures; after = reader.new.failures }) result }
     {
         let text = take_text(alloc, reader)?;
         Tal::from_text(alloc, name, text.as_slice())

@@ -5,7 +5,7 @@ ghost use Rattle.objects_cms.specs.bcder_tree.declared.mode.Mode.TheVariants.{De
 ghost use Rattle.objects_cms.specs.bcder_content.Exact.{DecodesAs, ReadsAs};
 ghost use Rattle.objects_cms.specs.bcder_content.Here.{here};
 ghost use Rattle.objects_cms.specs.bcder_content.InMode.{ReadsFields};
-ghost use Rattle.objects_rta.specs.Attestations.{AreFields, IsAttestation, attestation_of};
+ghost use Rattle.objects_rta.specs.Attestations.{AreFields, IsAttestation, IsSaid, attestation_of};
 ghost use Rattle.objects_rta.specs.AttestationParts.{AreBehind, AreDigest, behind_fields, digest_fields, parts_fields};
 
 use crate::attestation::keys::take_key_set;
@@ -20,7 +20,7 @@ use std::marker::Model;
 const VERSION: u8 = 0;
 
 /// What an attestation says: the identifiers of the keys that sign it, by whose resources it is signed, and the digest of
-/// what is attested. Contracts see the three.
+/// what is attested. Contracts see the three. It is always one that some value says (`some_value_says_it`).
 ///
 /// `ResourceTaggedAttestation ::= SEQUENCE { version [0] INTEGER DEFAULT 0, subjectKeyIdentifiers SET OF SubjectKeyIdentifier,
 /// resources ResourceBlock, digestAlgorithm DigestAlgorithmIdentifier, messageDigest OCTET STRING }`
@@ -32,7 +32,7 @@ pub struct ResourceTaggedAttestation {
 }
 
 impl Model for ResourceTaggedAttestation {
-    ghost use Rattle.objects_rta.specs.Attestations.{Attestation};
+    ghost use Rattle.objects_rta.specs.Attestations.{Attestation, IsSaid};
 
     ghost Value = { Attestation };
 
@@ -41,6 +41,12 @@ impl Model for ResourceTaggedAttestation {
       resources = a.resources;
       digest = a.digest;
     } };
+
+    ghost invariant = { λ a. IsSaid (record {
+      keys = a.keys.items;
+      resources = a.resources;
+      digest = a.digest;
+    }) };
 }
 
 // What stands behind the keys.
@@ -114,8 +120,9 @@ fn take_parts<S: Source>(
 
 /// Reading.
 impl ResourceTaggedAttestation {
-    // What the parts say.
+    // What the parts say, which some value says.
     fn from_parts(parts: Parts) -> Self
+        requires { IsSaid (attestation_of (parts_fields parts)) }
         ensures { result ≡ attestation_of (parts_fields parts) }
     {
         let Parts {
@@ -169,6 +176,13 @@ impl ResourceTaggedAttestation {
 
 /// What an attestation says.
 impl ResourceTaggedAttestation {
+    /// Some value says it. This is a law about attestations: nothing is done.
+    pub fn some_value_says_it(&self)
+        ensures { IsSaid self.now }
+    {
+        let _keys = &self.keys;
+    }
+
     /// The identifiers of the keys that sign it, in their order.
     pub fn subject_keys(&self) -> &[KeyIdentifier]
         ensures { result.now ≡ self.now.keys }

@@ -15,9 +15,9 @@ ghost use Rattle.objects_rta.specs.certs_x509.Took.{TookOctets};
 ghost use Rattle.objects_rta.specs.objects_cms.Signer.{IsSigner as IsSignerValue, signer_fields};
 ghost use Rattle.objects_written.specs.Attributes.{IsMessage, IsRefused, ToSign, to_sign};
 ghost use Rattle.objects_written.specs.Frames.{signer as written_signer};
-ghost use Rattle.objects_written.specs.Refusing.{BuildRefused, CanTell};
+ghost use Rattle.objects_written.specs.Refusing.{BuildRefused, CanTell, RefusesAttributes, RefusesMessage, refusals_of};
 ghost use Rattle.objects_rta.specs.Attestations.{tagged_attestation};
-ghost use Rattle.objects_rta_written.specs.Builders.{CannotAdd, CannotMake, IsSigner};
+ghost use Rattle.objects_rta_written.specs.Builders.{CannotMake, IsSigner, SignerRefused};
 ghost use Rattle.objects_rta_written.specs.Signing.{AreAttributesOf, SignsThem, fields_of};
 
 use certs::written::{Captured, EncodeError, Mode, Time, Values};
@@ -67,7 +67,9 @@ fn sign<S: Signer>(
     ensures signed { IfOk result (λ made. SignsThem
         (S.signs holder.now.signer.now holder.now.key.now)
         attributes.now.octets made.bits.octets) }
-    ensures refused { IfErr result (BuildRefused (S.refuses holder.now.signer.now) (Unit {0})
+    ensures refused { IfErr result (BuildRefused
+        (RefusesMessage (S.refuses holder.now.signer.now holder.now.key.now)
+        attributes.now.octets) (Unit {0})
         (Writable (IsMessage attributes.now.octets) → ⊥)) }
 {
     match signed_message(alloc, attributes) {
@@ -163,7 +165,9 @@ fn signed_for<S: Signer, D: Digester>(
         (S.signs holder.now.signer.now holder.now.key.now)
         (to_sign tagged_attestation (D.sha256_digest digester.now content.now) time)
         sid (signer_of (signer_fields x))) }
-    ensures refused { IfErr result (BuildRefused (S.refuses holder.now.signer.now)
+    ensures refused { IfErr result (BuildRefused
+        (RefusesAttributes (S.refuses holder.now.signer.now holder.now.key.now)
+        (to_sign tagged_attestation (D.sha256_digest digester.now content.now) time))
         (CanTell tagged_attestation) (CannotMake
         (S.signs holder.now.signer.now holder.now.key.now)
         (to_sign tagged_attestation (D.sha256_digest digester.now content.now) time) sid)) }
@@ -194,11 +198,11 @@ pub(crate) fn signer_for<S: Signer, D: Digester>(
         (to_sign tagged_attestation (D.sha256_digest digester.now content.now) time)
         (identifier (digests_of D.sha256_digest D.sha1_digest digester.now) k)
         (signer_of (signer_fields x))) }
-    ensures refused { IfErr result (BuildRefused (S.refuses signer.now)
-        (CanTell tagged_attestation) (CannotAdd
+    ensures refused { IfErr result (SignerRefused
+        (refusals_of S.refuses_key S.refuses S.refuses_once signer.now key.now)
         (digests_of D.sha256_digest D.sha1_digest digester.now)
         (S.has_key signer.now key.now) (S.signs signer.now key.now)
-        (to_sign tagged_attestation (D.sha256_digest digester.now content.now) time))) }
+        (to_sign tagged_attestation (D.sha256_digest digester.now content.now) time)) }
 {
     match signer.get_key_info(alloc, key) {
         Ok(public) => {

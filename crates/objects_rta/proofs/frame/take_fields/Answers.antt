@@ -14,19 +14,19 @@ returns-in_err-digest-clause-reads g c = stop _ (next begin c.in_ok-version.ensu
 pub returns-in_err-typed-clause-reads : goal.returns-in_err-typed-clause-reads
 returns-in_err-typed-clause-reads g c =
     let s = next (next begin c.in_ok-version.ensures.reads) c.in_ok-digest.ensures.reads in
-    stop _ s c.from_residual-in_err-typed.ensures c.in_err-typed.ensures
+    stop _ s c.from_residual-in_err-typed.ensures c.in_err-typed.ensures.reads
 
 pub returns-in_err-typed-2-clause-reads : goal.returns-in_err-typed-2-clause-reads
 returns-in_err-typed-2-clause-reads g c =
     let s = next (next begin c.in_ok-version.ensures.reads) c.in_ok-digest.ensures.reads in
     let lacks = rw c.in_err-typed-2.ensures.err at c.take_carried.ensures.reads in
-    stop_all _ (next s c.in_ok-typed.ensures) c.from_residual-in_err-typed-2.ensures lacks.reads
+    stop_all _ (next s c.in_ok-typed.ensures.reads) c.from_residual-in_err-typed-2.ensures lacks.reads
 
 pub returns-clause-reads : goal.returns-clause-reads
 returns-clause-reads g c =
     let s = next (next begin c.in_ok-version.ensures.reads) c.in_ok-digest.ensures.reads in
     let carried = rw c.in_ok-typed-2.ensures.ok.1 at c.take_carried.ensures.reads in
-    finish (next s c.in_ok-typed.ensures) carried.reads
+    finish (next s c.in_ok-typed.ensures.reads) carried.reads
     (ap (λ typed. multi_fields (typed, c.in_ok-typed-2.carried)) c.in_ok-typed-2.ensures.ok.0)
 
 pub returns-clause-octets : goal.returns-clause-octets
@@ -35,5 +35,5 @@ returns-clause-octets g c =
     as_read (ap (λ typed. multi_fields (typed, c.in_ok-typed-2.carried)) c.in_ok-typed-2.ensures.ok.0)
     (join (field (λ m. IsThree) c.in_ok-version.ensures.reads)
     (join (field (λ m. AreDigestAlgorithms) c.in_ok-digest.ensures.reads)
-    (join (field IsContentInfo c.in_ok-typed.ensures)
+    (join (field IsContentInfo c.in_ok-typed.ensures.reads)
     (read_as carried))))

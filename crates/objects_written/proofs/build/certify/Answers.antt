@@ -18,4 +18,4 @@ pub returns-in-Ok-clause-algorithm : goal.returns-in-Ok-clause-algorithm
 returns-in-Ok-clause-algorithm g c = cert_algorithm _ c.into_cert.result c.into_cert.ensures.fields c.into_cert.ensures.algorithm
 
 pub returns-in-Ok-clause-refused : goal.returns-in-Ok-clause-refused
-returns-in-Ok-clause-refused g c = cert_refused (g.S.Signer.refuses c.args.issuer.now.signer.now) _ _ _ _ _ c.in-Ok.ensures c.into_cert.result c.into_cert.ensures.refused
+returns-in-Ok-clause-refused g c = cert_refused (g.S.Signer.refuses c.args.issuer.now.signer.now c.args.issuer.now.key.now) _ _ _ _ _ c.in-Ok.ensures c.into_cert.result c.into_cert.ensures.refused

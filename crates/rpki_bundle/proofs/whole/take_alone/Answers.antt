@@ -6,6 +6,7 @@ use Rattle.rpki_bundle.proofs.of_bcder_content.Forests.{begin, next, stop, stop_
 use Rattle.rpki_bundle.proofs.of_bcder_content.Taking.{weaker, on_content}
 use Rattle.rpki_bundle.proofs.of_bcder_content.Took.{ended_none}
 use Rattle.rpki_bundle.specs.PartFields.{IsBundleAlone, parts_alone}
+use Rattle.rpki_bundle.proofs.Beginning.{found_err, wants_on}
 use Rattle.rpki_bundle.proofs.Reading.{end_lacks, ends_err}
 use Rattle.rpki_bundle.proofs.whole.take_alone.Goals as goal
 
@@ -27,3 +28,9 @@ returns-clause-reads g c =
     let m = (here g.S.Source.rest c.args.cons.now).mode in
     let end = absent_next _ _ _ c.in_default.is c.in_ok-behind.ensures.skipped in
     subst (λ (v : ValuesLeft). GivesAll (IsBundleAlone m) (here g.S.Source.rest c.args.cons.now) (parts_alone c.in_ok-parts.parts) v × Ended v) (sym end.0) (done (next (begin _ _) c.in_ok-parts.ensures.reads), end.1)
+
+pub returns-in_err-parts-clause-memory : goal.returns-in_err-parts-clause-memory
+returns-in_err-parts-clause-memory g c = wants_on _ _ _ c.from_residual.ensures c.in_err-parts.ensures.begins
+
+pub returns-in_err-behind-clause-memory : goal.returns-in_err-behind-clause-memory
+returns-in_err-behind-clause-memory g c = found_err _ c.in_ok-parts.ensures.begins

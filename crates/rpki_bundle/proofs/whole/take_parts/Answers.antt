@@ -1,5 +1,5 @@
 -- The number of the version says whether a flag stands behind the depth.
-use Rattle.std.proofs.Common.{◌≡◌, ℕ, Bool, true, sym, ap, ◌∙◌}
+use Rattle.std.proofs.Common.{◌≡◌, ℕ, Bool, true, refl, sym, ap, ◌∙◌}
 use Rattle.rpki_bundle.specs.bcder_tree.declared.mode.Mode.{Mode}
 use Rattle.rpki_bundle.specs.bcder_tree.Tree.{Trees}
 use Rattle.rpki_bundle.specs.bcder_content.Contents.{ValuesLeft}
@@ -10,6 +10,7 @@ use Rattle.rpki_bundle.proofs.of_bcder_content.InMode.{Fields, begin, next, stop
 use Rattle.rpki_bundle.proofs.of_bcder_content.Unique.{octets_one, unsigned_one}
 use Rattle.rpki_bundle.specs.declared.version.Version.{Version}
 use Rattle.rpki_bundle.specs.declared.version.Version.TheVariants as version
+use Rattle.rpki_bundle.proofs.Beginning.{begins, found, none_wanted}
 use Rattle.rpki_bundle.specs.Bundle.{IsNumber, IsFlag, Flag, FlagCases, IsMomentString, IsDepthNumber, Lists, BundleFields, AreLists, AreBundleFields}
 use Rattle.rpki_bundle.proofs.whole.take_parts.Goals as goal
 
@@ -54,46 +55,72 @@ up_to_depth : {start one two three : ValuesLeft} {n moment depth : ℕ} → Give
     → Fields AreBundleFields (λ m. Flag m n (AreLists m)) (λ b. (n, (moment, (depth, b)))) start three true
 up_to_depth g h k = next (next (next_by (λ m. octets_one unsigned_one) begin g) h) k
 
-pub returns-in_err-number : goal.returns-in_err-number
-returns-in_err-number g c = stop_by _ begin c.from_residual.ensures c.in_err-number.ensures.reads
+pub returns-in_err-number-clause-reads : goal.returns-in_err-number-clause-reads
+returns-in_err-number-clause-reads g c = stop_by _ begin c.from_residual.ensures c.in_err-number.ensures.reads
 
-pub returns-in_err-moment : goal.returns-in_err-moment
-returns-in_err-moment g c = stop _ (next_by (λ m. octets_one unsigned_one) begin c.in_ok-number.ensures.reads) c.from_residual-in_err-moment.ensures c.in_err-moment.ensures.reads
+pub returns-in_err-moment-clause-reads : goal.returns-in_err-moment-clause-reads
+returns-in_err-moment-clause-reads g c = stop _ (next_by (λ m. octets_one unsigned_one) begin c.in_ok-number.ensures.reads) c.from_residual-in_err-moment.ensures c.in_err-moment.ensures.reads
 
-pub returns-in_err-depth : goal.returns-in_err-depth
-returns-in_err-depth g c = stop _ (next (next_by (λ m. octets_one unsigned_one) begin c.in_ok-number.ensures.reads) c.in_ok-moment.ensures.reads) c.from_residual-in_err-depth.ensures c.in_err-depth.ensures.reads
+pub returns-in_err-depth-clause-reads : goal.returns-in_err-depth-clause-reads
+returns-in_err-depth-clause-reads g c = stop _ (next (next_by (λ m. octets_one unsigned_one) begin c.in_ok-number.ensures.reads) c.in_ok-moment.ensures.reads) c.from_residual-in_err-depth.ensures c.in_err-depth.ensures.reads
 
-pub returns-in_err-entries : goal.returns-in_err-entries
-returns-in_err-entries g c =
+pub returns-in_err-entries-clause-reads : goal.returns-in_err-entries-clause-reads
+returns-in_err-entries-clause-reads g c =
     let s = up_to_depth c.in_ok-number.ensures.reads c.in_ok-moment.ensures.reads c.in_ok-depth.ensures.reads in
     let t = told_by {T = AreLists} of_zero s (λ m ts x p. record { cases = (c.if-number-eq0.true, p) }) (zero_from c.if-number-eq0.true) in
     stop_all _ t c.from_residual-in_err-entries.ensures c.in_err-entries.ensures.reads
 
-pub returns-then-number-eq0 : goal.returns-then-number-eq0
-returns-then-number-eq0 g c =
+pub returns-then-number-eq0-clause-reads : goal.returns-then-number-eq0-clause-reads
+returns-then-number-eq0-clause-reads g c =
     let s = up_to_depth c.in_ok-number.ensures.reads c.in_ok-moment.ensures.reads c.in_ok-depth.ensures.reads in
     let t = told_by {T = AreLists} of_zero s (λ m ts x p. record { cases = (c.if-number-eq0.true, p) }) (zero_from c.if-number-eq0.true) in
     finish t c.in_ok-entries.ensures.reads (same_number _ c.if-number-eq0.true)
 
-pub returns-then-number-ne1 : goal.returns-then-number-ne1
-returns-then-number-ne1 g c =
+pub returns-then-number-ne1-clause-reads : goal.returns-then-number-ne1-clause-reads
+returns-then-number-ne1-clause-reads g c =
     let s = up_to_depth c.in_ok-number.ensures.reads c.in_ok-moment.ensures.reads c.in_ok-depth.ensures.reads in
     none_told s (none_from c.if-number-eq0.false c.if-number-ne1.true)
 
-pub returns-in_err-relaxed : goal.returns-in_err-relaxed
-returns-in_err-relaxed g c =
+pub returns-in_err-relaxed-clause-reads : goal.returns-in_err-relaxed-clause-reads
+returns-in_err-relaxed-clause-reads g c =
     let s = up_to_depth c.in_ok-number.ensures.reads c.in_ok-moment.ensures.reads c.in_ok-depth.ensures.reads in
     let t = told_by {T = AreFlagged} of_one s (λ m ts x p. record { cases = (c.if-number-ne1.false, p) }) (one_from c.if-number-ne1.false) in
     stop _ t c.from_residual-in_err-relaxed.ensures c.in_err-relaxed.ensures.reads
 
-pub returns-in_err-entries-2 : goal.returns-in_err-entries-2
-returns-in_err-entries-2 g c =
+pub returns-in_err-entries-2-clause-reads : goal.returns-in_err-entries-2-clause-reads
+returns-in_err-entries-2-clause-reads g c =
     let s = up_to_depth c.in_ok-number.ensures.reads c.in_ok-moment.ensures.reads c.in_ok-depth.ensures.reads in
     let t = told_by {T = AreFlagged} of_one s (λ m ts x p. record { cases = (c.if-number-ne1.false, p) }) (one_from c.if-number-ne1.false) in
     stop_all _ (next t c.in_ok-relaxed.ensures.reads) c.from_residual-in_err-entries-2.ensures c.in_err-entries-2.ensures.reads
 
-pub returns : goal.returns
-returns g c =
+pub returns-clause-reads : goal.returns-clause-reads
+returns-clause-reads g c =
     let s = up_to_depth c.in_ok-number.ensures.reads c.in_ok-moment.ensures.reads c.in_ok-depth.ensures.reads in
     let t = told_by {T = AreFlagged} of_one s (λ m ts x p. record { cases = (c.if-number-ne1.false, p) }) (one_from c.if-number-ne1.false) in
     finish (next t c.in_ok-relaxed.ensures.reads) c.in_ok-entries-2.ensures.reads (same_number _ c.if-number-ne1.false)
+
+-- What is in front, where a read is refused for memory or all was read.
+
+pub returns-in_err-number-clause-begins : goal.returns-in_err-number-clause-begins
+returns-in_err-number-clause-begins g c = none_wanted _ _ _ c.from_residual.ensures c.in_err-number.ensures.no_memory
+
+pub returns-in_err-moment-clause-begins : goal.returns-in_err-moment-clause-begins
+returns-in_err-moment-clause-begins g c = none_wanted _ _ _ c.from_residual-in_err-moment.ensures c.in_err-moment.ensures.no_memory
+
+pub returns-in_err-depth-clause-begins : goal.returns-in_err-depth-clause-begins
+returns-in_err-depth-clause-begins g c = none_wanted _ _ _ c.from_residual-in_err-depth.ensures c.in_err-depth.ensures.no_memory
+
+pub returns-in_err-entries-clause-begins : goal.returns-in_err-entries-clause-begins
+returns-in_err-entries-clause-begins g c = found _ (begins version.Zero _ c.in_ok-number.ensures.reads c.in_ok-moment.ensures.reads c.in_ok-depth.ensures.reads (c.if-number-eq0.true, refl))
+
+pub returns-then-number-eq0-clause-begins : goal.returns-then-number-eq0-clause-begins
+returns-then-number-eq0-clause-begins g c = begins version.Zero _ c.in_ok-number.ensures.reads c.in_ok-moment.ensures.reads c.in_ok-depth.ensures.reads (c.if-number-eq0.true, refl)
+
+pub returns-in_err-relaxed-clause-begins : goal.returns-in_err-relaxed-clause-begins
+returns-in_err-relaxed-clause-begins g c = none_wanted _ _ _ c.from_residual-in_err-relaxed.ensures c.in_err-relaxed.ensures.no_memory
+
+pub returns-in_err-entries-2-clause-begins : goal.returns-in_err-entries-2-clause-begins
+returns-in_err-entries-2-clause-begins g c = found _ (begins (version.One c.in_ok-relaxed.relaxed) _ c.in_ok-number.ensures.reads c.in_ok-moment.ensures.reads c.in_ok-depth.ensures.reads (c.if-number-ne1.false, c.in_ok-relaxed.ensures.reads))
+
+pub returns-clause-begins : goal.returns-clause-begins
+returns-clause-begins g c = begins (version.One c.in_ok-relaxed.relaxed) _ c.in_ok-number.ensures.reads c.in_ok-moment.ensures.reads c.in_ok-depth.ensures.reads (c.if-number-ne1.false, c.in_ok-relaxed.ensures.reads)

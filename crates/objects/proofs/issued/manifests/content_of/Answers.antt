@@ -1,4 +1,4 @@
-use Rattle.objects.specs.objects_written.Manifests.{manifest}
+use Rattle.objects.specs.objects_contents.Manifests.{manifest}
 use Rattle.objects.proofs.Refused.{content_refused}
 use Rattle.objects.proofs.issued.manifests.content_of.Goals as goal
 

@@ -1,4 +1,4 @@
-use Rattle.objects.specs.objects_written.Roas.{roa}
+use Rattle.objects.specs.objects_contents.Roas.{roa}
 use Rattle.objects.proofs.Refused.{content_refused}
 use Rattle.objects.proofs.issued.roas.content_of.Goals as goal
 

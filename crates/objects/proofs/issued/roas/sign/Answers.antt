@@ -4,9 +4,10 @@ use Rattle.objects.proofs.Refused.{content_stop, object_stop}
 use Rattle.std.proofs.Common.{inr}
 use Rattle.objects.specs.bcder_tree.declared.mode.Mode.TheVariants.{Der}
 use Rattle.objects.specs.objects_payload.Identifiers as id
-use Rattle.objects.specs.objects_written.Roas.{roa}
+use Rattle.objects.specs.objects_contents.Roas.{roa}
 use Rattle.objects.specs.Issued.{AttestsPrefixes}
 use Rattle.objects.proofs.issued.roas.sign.Goals as goal
+use Rattle.objects_written.specs.Refusing.{refusals_of}
 
 pub returns-in-Ok-attesting-clause-built : goal.returns-in-Ok-attesting-clause-built
 returns-in-Ok-attesting-clause-built g c =
@@ -23,7 +24,7 @@ returns-in-Ok-attesting-clause-signed g c =
 pub returns-in-Ok-attesting-clause-refused : goal.returns-in-Ok-attesting-clause-refused
 returns-in-Ok-attesting-clause-refused g c =
     let d = digests_of g.D.Digester.sha256_digest g.D.Digester.sha1_digest c.args.digester.now in
-    object_stop (g.S.Signer.refuses c.args.signer.now) d (g.S.Signer.has_key c.args.signer.now c.args.issuer_key.now) (g.S.Signer.signs_once c.args.signer.now) id.route_origin ((roa c.args.attestation.now).writes Der) (AttestsPrefixes c.args.builder c.args.attestation.now) _ c.in-Ok.content.octets c.as_slice.result.now c.in-Ok-attesting.fields c.in-Ok.ensures.written c.as_slice.ensures.octets c.in-Ok-attesting.ensures
+    object_stop (refusals_of g.S.Signer.refuses_key g.S.Signer.refuses g.S.Signer.refuses_once c.args.signer.now c.args.issuer_key.now) d (g.S.Signer.has_key c.args.signer.now c.args.issuer_key.now) (g.S.Signer.signs_once c.args.signer.now) id.route_origin ((roa c.args.attestation.now).writes Der) (AttestsPrefixes c.args.builder c.args.attestation.now) c.in-Ok.content.octets c.as_slice.result.now c.in-Ok-attesting.fields c.in-Ok.ensures.written c.as_slice.ensures.octets c.in-Ok-attesting.ensures
     c.finalize-octets.result c.finalize-octets.ensures.refused
 
 pub returns-in-Err-attesting-clause-refused : goal.returns-in-Err-attesting-clause-refused
@@ -32,4 +33,4 @@ returns-in-Err-attesting-clause-refused g c = inr (c.in-Ok.content.octets, c.in-
 pub returns-in-Err-clause-refused : goal.returns-in-Err-clause-refused
 returns-in-Err-clause-refused g c =
     let d = digests_of g.D.Digester.sha256_digest g.D.Digester.sha1_digest c.args.digester.now in
-    content_stop (g.S.Signer.refuses c.args.signer.now) d (g.S.Signer.has_key c.args.signer.now c.args.issuer_key.now) (g.S.Signer.signs_once c.args.signer.now) id.route_origin ((roa c.args.attestation.now).writes Der) (AttestsPrefixes c.args.builder c.args.attestation.now) c.in-Err.error c.in-Err.ensures.refused
+    content_stop (refusals_of g.S.Signer.refuses_key g.S.Signer.refuses g.S.Signer.refuses_once c.args.signer.now c.args.issuer_key.now) d (g.S.Signer.has_key c.args.signer.now c.args.issuer_key.now) (g.S.Signer.signs_once c.args.signer.now) id.route_origin ((roa c.args.attestation.now).writes Der) (AttestsPrefixes c.args.builder c.args.attestation.now) c.in-Err.error c.in-Err.ensures.refused

@@ -4,8 +4,9 @@ use Rattle.objects_payload.proofs.locator.text.take_text.Given as goal
 
 abbrev pub invariant-loop-piece : goal.invariant-loop-piece
 invariant-loop-piece g l = record {
-  so_far : Consumes (g.R.Read.remaining l.fn.reader) (g.R.Read.remaining l.reader) l.text.items;
+  so_far : Consumes (g.R.Read.remaining l.fn.reader.inner) (g.R.Read.remaining l.reader.inner) l.text.items;
   within : vec_len l.text ≤ 2 ^ 32;
+  none_failed : l.reader.failures ≡ l.fn.reader.failures;
   room : length l.piece ≡ 4096;
 }
 

@@ -4,7 +4,7 @@ use Rattle.certs.specs.bcder_primitive.Writing.{CannotWrite}
 use Rattle.certs.proofs.Same.{no_len_same}
 use Rattle.objects_written.specs.bcder_tree.Tags.{context}
 use Rattle.objects_written.specs.certs_extension.CrlText.{CrlValue}
-use Rattle.objects_written.specs.Outputs.{Output, each, inside}
+use Rattle.objects_contents.specs.Outputs.{Output, each, inside}
 use Rattle.objects_rta_written.specs.Frames.{crl}
 use Rattle.objects_rta_written.proofs.Writing.{lists_shown}
 use Rattle.objects_rta_written.proofs.object.ListsValueValues.encoded_len.Goals as goal

@@ -5,7 +5,7 @@ use Rattle.objects.specs.Written.{aspa}
 use Rattle.objects.proofs.AspaAgain.{aspa_told}
 use Rattle.std.specs.Prelude.{◌≡◌, ℕ, IfErr, List}
 use Rattle.objects.specs.bcder_primitive.declared.written.error.EncodeError.TheVariants as causes
-use Rattle.objects_written.proofs.Refusing.{lacked}
+use Rattle.objects_contents.proofs.Lacking.{lacked}
 use Rattle.objects.proofs.attested.builder.AspaBuilder.to_octets.Goals as goal
 
 pub returns-clause-again : goal.returns-clause-again

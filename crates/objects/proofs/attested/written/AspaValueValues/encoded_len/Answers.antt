@@ -1,5 +1,5 @@
 use Rattle.objects.specs.Written.{written_aspa}
-use Rattle.objects_written.proofs.Same.{len_same, no_len_same}
+use Rattle.objects_contents.proofs.Same.{len_same, no_len_same}
 use Rattle.objects.proofs.attested.written.AspaValueValues.encoded_len.Goals as goal
 
 pub returns-clause-len : goal.returns-clause-len

@@ -1,5 +1,5 @@
 use Rattle.objects.specs.Written.{written_aspa}
-use Rattle.objects_written.proofs.Same.{refused_same, wrote_same}
+use Rattle.objects_contents.proofs.Same.{refused_same, wrote_same}
 use Rattle.objects.proofs.attested.written.AspaValueValues.write_encoded.Goals as goal
 
 pub returns-clause-written : goal.returns-clause-written

@@ -4,11 +4,11 @@ use Rattle.std.proofs.Common.{IfErr, subst}
 use Rattle.objects.specs.bcder_tree.declared.mode.Mode.TheVariants.{Der}
 use Rattle.objects.specs.objects_payload.Identifiers as id
 use Rattle.objects.specs.objects_payload.Roas.{Roa}
-use Rattle.objects.specs.objects_written.Roas.{roa}
-use Rattle.objects_written.specs.Refusing.{BuildRefused}
+use Rattle.objects.specs.objects_contents.Roas.{roa}
+use Rattle.objects_written.specs.Refusing.{refusals_of}
 use Rattle.objects.specs.Issued.{AttestsPrefixes}
-use Rattle.objects.specs.Refusing.{CanWrite, CannotSignContent}
-use Rattle.objects_written.proofs.Refused.{passed}
+use Rattle.objects.specs.Refusing.{ContentRefused}
+use Rattle.objects.proofs.Refused.{or_before}
 use Rattle.objects.proofs.issued.roas.RoaBuilderFinalizeRoa.finalize.Goals as goal
 
 pub returns-in-Ok-clause-signed : goal.returns-in-Ok-clause-signed
@@ -19,6 +19,7 @@ returns-in-Ok-clause-signed g c =
 pub returns-in-Ok-clause-refused : goal.returns-in-Ok-clause-refused
 returns-in-Ok-clause-refused g c =
     let d = digests_of g.D.Digester.sha256_digest g.D.Digester.sha1_digest c.args.digester.now in
-    let R = λ (r : Roa). CannotSignContent d (g.S.Signer.has_key c.args.signer.now c.args.issuer_key.now) (g.S.Signer.signs_once c.args.signer.now) id.route_origin ((roa r).writes Der) (AttestsPrefixes c.args.builder r) in
-    let told = λ (r : Roa). IfErr c.sign-octets.result (BuildRefused (g.S.Signer.refuses c.args.signer.now) (CanWrite ((roa r).writes Der)) (R r)) in
-    passed (g.S.Signer.refuses c.args.signer.now) (CanWrite ((roa c.args.self).writes Der)) (Unit {0}) (R c.args.self) (R c.args.self) (λ u. tt) (λ x. x) c.sign-octets.result (subst told c.in-Ok.ensures c.sign-octets.ensures.refused)
+    let refusals = refusals_of g.S.Signer.refuses_key g.S.Signer.refuses g.S.Signer.refuses_once c.args.signer.now c.args.issuer_key.now in
+    let told = λ (r : Roa).
+    IfErr c.sign-octets.result (ContentRefused refusals d (g.S.Signer.has_key c.args.signer.now c.args.issuer_key.now) (g.S.Signer.signs_once c.args.signer.now) id.route_origin ((roa r).writes Der) (AttestsPrefixes c.args.builder r)) in
+    or_before _ c.sign-octets.result (subst told c.in-Ok.ensures c.sign-octets.ensures.refused)

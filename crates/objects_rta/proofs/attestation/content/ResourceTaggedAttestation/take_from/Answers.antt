@@ -16,3 +16,8 @@ returns-clause-reads g c =
     let old = here g.S.Source.rest c.args.cons.now in
     subst (λ (x : Attestation). Gives (IsAttestation old.mode) old x (here g.S.Source.rest c.take_sequence.new.self)) (sym c.from_parts.ensures)
     (as_gives attestation_of (inside {P = AreFields} (record { each = λ p q r h. h }) c.in_ok-parts.ensures.ran))
+
+pub from_parts-requires : goal.from_parts-requires
+from_parts-requires g c =
+    let said = as_gives attestation_of (inside {P = AreFields} (record { each = λ p q r h. h }) c.in_ok-parts.ensures.ran) in
+    record { mode = (here g.S.Source.rest c.args.cons.now).mode; tree = said.tree; is = said.is }

@@ -1,7 +1,7 @@
 use Rattle.std.proofs.Common.{◌∙◌, Bool, sym}
 use Rattle.certs.specs.Resources.{said_families}
 use Rattle.certs.proofs.Same.{len_same, no_len_same}
-use Rattle.objects_written.specs.Outputs.{perhaps}
+use Rattle.objects_contents.specs.Outputs.{perhaps}
 use Rattle.objects_rta_written.specs.Contents.{tagged_families}
 use Rattle.objects_rta_written.proofs.attestation.stated.FamiliesValueValues.encoded_len.Goals as goal
 

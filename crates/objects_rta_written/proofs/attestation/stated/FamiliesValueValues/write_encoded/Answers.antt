@@ -1,7 +1,7 @@
 use Rattle.std.proofs.Common.{◌∙◌, Bool, sym}
 use Rattle.certs.specs.Resources.{said_families}
 use Rattle.certs.proofs.Same.{refused_same, wrote_same}
-use Rattle.objects_written.specs.Outputs.{perhaps}
+use Rattle.objects_contents.specs.Outputs.{perhaps}
 use Rattle.objects_rta_written.specs.Contents.{tagged_families}
 use Rattle.objects_rta_written.proofs.attestation.stated.FamiliesValueValues.write_encoded.Goals as goal
 

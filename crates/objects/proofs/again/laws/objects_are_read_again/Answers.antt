@@ -1,5 +1,0 @@
-use Rattle.objects.proofs.Texts.{object_again}
-use Rattle.objects.proofs.again.laws.objects_are_read_again.Goals as goal
-
-pub returns : goal.returns
-returns c = object_again c.what_is_built_is_read.ensures.same

@@ -1,9 +1,0 @@
-use Rattle.objects_written.specs.Roas.{written_family}
-use Rattle.objects_written.proofs.Same.{refused_same, wrote_same}
-use Rattle.objects_written.proofs.family.FamilyValueValues.write_encoded.Goals as goal
-
-pub returns-clause-written : goal.returns-clause-written
-returns-clause-written g c = wrote_same written_family c.args.mode _ _ _ c.parts-value.ensures c.write_encoded.ensures.written
-
-pub returns-clause-refused : goal.returns-clause-refused
-returns-clause-refused g c = refused_same written_family c.args.mode _ _ _ _ c.parts-value.ensures c.write_encoded.ensures.refused

@@ -1,5 +1,0 @@
-use Rattle.objects_written.proofs.ManifestAgain.{manifest_text}
-use Rattle.objects_written.proofs.laws.manifests_are_read_again.Goals as goal
-
-pub returns : goal.returns
-returns c = manifest_text

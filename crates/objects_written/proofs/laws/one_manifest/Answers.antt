@@ -1,5 +1,0 @@
-use Rattle.objects_written.proofs.Making.{manifest_one}
-use Rattle.objects_written.proofs.laws.one_manifest.Goals as goal
-
-pub returns : goal.returns
-returns c = manifest_one

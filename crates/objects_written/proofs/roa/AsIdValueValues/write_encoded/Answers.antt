@@ -1,6 +1,0 @@
-use Rattle.objects_written.specs.Roas.{as_id}
-use Rattle.objects_written.proofs.Same.{refused_same}
-use Rattle.objects_written.proofs.roa.AsIdValueValues.write_encoded.Goals as goal
-
-pub returns-clause-refused : goal.returns-clause-refused
-returns-clause-refused g c = refused_same as_id c.args.mode _ _ _ _ c.self.view_is c.write_encoded.ensures.refused

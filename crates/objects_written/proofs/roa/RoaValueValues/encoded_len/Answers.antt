@@ -1,9 +1,0 @@
-use Rattle.objects_written.specs.Roas.{written_roa}
-use Rattle.objects_written.proofs.Same.{len_same, no_len_same}
-use Rattle.objects_written.proofs.roa.RoaValueValues.encoded_len.Goals as goal
-
-pub returns-clause-len : goal.returns-clause-len
-returns-clause-len c = len_same written_roa c.args.mode _ c.parts-value.ensures c.encoded_len.ensures.len
-
-pub returns-clause-refused : goal.returns-clause-refused
-returns-clause-refused c = no_len_same written_roa c.args.mode _ c.parts-value.ensures c.encoded_len.ensures.refused

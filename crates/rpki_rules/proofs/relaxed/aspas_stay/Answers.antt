@@ -1,5 +1,0 @@
-use Rattle.rpki_rules.proofs.RelaxedObjects.{aspas_stay, aspas_stay_alone}
-use Rattle.rpki_rules.proofs.relaxed.aspas_stay.Goals as goal
-
-pub returns : goal.returns
-returns c = record { stay = aspas_stay; alone = aspas_stay_alone }

@@ -1,5 +1,0 @@
-use Rattle.rpki_rules.proofs.RelaxedInspected.{inspected_alike, names_alike}
-use Rattle.rpki_rules.proofs.relaxed.inspection_answers_alike.Goals as goal
-
-pub returns : goal.returns
-returns c = record { names = names_alike; certs = inspected_alike }

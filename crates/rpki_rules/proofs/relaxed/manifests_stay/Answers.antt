@@ -1,5 +1,0 @@
-use Rattle.rpki_rules.proofs.RelaxedObjects.{manifests_stay, manifests_stay_alone}
-use Rattle.rpki_rules.proofs.relaxed.manifests_stay.Goals as goal
-
-pub returns : goal.returns
-returns c = record { stay = manifests_stay; alone = manifests_stay_alone }

@@ -1,5 +1,0 @@
-use Rattle.rpki_rules.proofs.RelaxedCerts.{certs_stay, names_stay}
-use Rattle.rpki_rules.proofs.relaxed.names_and_certs_stay.Goals as goal
-
-pub returns : goal.returns
-returns c = record { names = names_stay; certs = certs_stay }

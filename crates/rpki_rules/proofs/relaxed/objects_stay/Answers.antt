@@ -1,5 +1,0 @@
-use Rattle.rpki_rules.proofs.RelaxedObjects.{objects_stay, objects_stay_alone}
-use Rattle.rpki_rules.proofs.relaxed.objects_stay.Goals as goal
-
-pub returns : goal.returns
-returns c = record { stay = objects_stay; alone = objects_stay_alone }

@@ -1,5 +1,0 @@
-use Rattle.rpki_rules.proofs.RelaxedObjects.{roas_stay, roas_stay_alone}
-use Rattle.rpki_rules.proofs.relaxed.roas_stay.Goals as goal
-
-pub returns : goal.returns
-returns c = record { stay = roas_stay; alone = roas_stay_alone }
