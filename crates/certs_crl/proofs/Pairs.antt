@@ -63,19 +63,19 @@ tells_kind (Source error) h g = tt
 tells_kind Memory h g = tt
 
 -- No extension is next that a list doesn't have: there is none at all, it was refused, or it is one of a list.
-tells_none : {E : Type 0} {v : ValuesLeft} (r : DecodeError E) → OnContent r ((e : Extension) → UnknownAhead v e → ⊥) → TellsUnknown v r
-tells_none (Content error pos) h = λ e u. absurd (h e u)
-tells_none (Source error) h = tt
-tells_none Memory h = tt
+tells_none : {E : Type 0} (v : ValuesLeft) (r : DecodeError E) → OnContent r ((e : Extension) → UnknownAhead v e → ⊥) → TellsUnknown v r
+tells_none v (Content error pos) h = λ e u. absurd (h e u)
+tells_none v (Source error) h = tt
+tells_none v Memory h = tt
 
-pub tells_lacks : {E : Type 0} {v : ValuesLeft} (r : DecodeError E) → OnContent r (LacksTagged sequence_tag (IsExtension v.mode) v) → TellsUnknown v r
-tells_lacks r h = tells_none r (weaker r (λ l e u. l.lacks.none u.tree e u.is u.ahead) h)
+pub tells_lacks : {E : Type 0} (v : ValuesLeft) (r : DecodeError E) → OnContent r (LacksTagged sequence_tag (IsExtension v.mode) v) → TellsUnknown v r
+tells_lacks v r h = tells_none v r (weaker r (λ l e u. l.lacks.none u.tree e u.is u.ahead) h)
 
 pub tells_absent : {E : Type 0} {v : ValuesLeft} (r : DecodeError E) → Unlike v sequence_tag → TellsUnknown v r
-tells_absent r h = tells_none r (on_content r (λ e u. h.none u.tree u.ahead (extension_tagged.tagged u.tree e u.is)))
+tells_absent {v = v} r h = tells_none v r (on_content r (λ e u. h.none u.tree u.ahead (extension_tagged.tagged u.tree e u.is)))
 
 pub tells_known : {E : Type 0} {v new : ValuesLeft} {x : Extension} (r : DecodeError E) → IsOfList x → Gives (IsExtension v.mode) v x new → TellsUnknown v r
-tells_known r known g = tells_none r (on_content r (λ e u. u.unknown (subst IsOfList (same_kind g u) known)))
+tells_known {v = v} r known g = tells_none v r (on_content r (λ e u. u.unknown (subst IsOfList (same_kind g u) known)))
 
 -- Those of two extensions that are of a kind.
 abbrev picked : Bool → Bool → Extension → Extension → List Extension

@@ -18,7 +18,7 @@ pub returns-in-Err-clause-reads : goal.returns-in-Err-clause-reads
 returns-in-Err-clause-reads g c = weaker {P = LacksTagged sequence_tag (IsExtension _) _} _ (λ l. such_lacks l.lacks) c.in-Err.ensures.reads
 
 pub returns-in-Err-clause-told : goal.returns-in-Err-clause-told
-returns-in-Err-clause-told g c = tells_lacks _ c.in-Err.ensures.reads
+returns-in-Err-clause-told g c = tells_lacks _ _ c.in-Err.ensures.reads
 
 pub returns-clause-reads : goal.returns-clause-reads
 returns-clause-reads g c = told_refused c.in-Ok-Some.extension.kind.0 c.unknown.result c.unknown.ensures (unknown_lacks (there extension_value sequence_tag _ c.in-Ok-Some.field-0-is c.in-Ok-Some.ensures.reads) (λ k. let yes = c.is_known.ensures.1 k in let no = c.if-is_known.false in absurd cc))

@@ -14,7 +14,7 @@ pub returns-in-Err-clause-reads : goal.returns-in-Err-clause-reads
 returns-in-Err-clause-reads g c = record { reads = weaker {P = LacksTagged sequence_tag (IsExtension _) _} _ goes_on c.in-Err.ensures.reads }
 
 pub returns-in-Err-clause-told : goal.returns-in-Err-clause-told
-returns-in-Err-clause-told g c = tells_lacks _ c.in-Err.ensures.reads
+returns-in-Err-clause-told g c = tells_lacks _ _ c.in-Err.ensures.reads
 
 pub returns-then-is_known-clause-reads : goal.returns-then-is_known-clause-reads
 returns-then-is_known-clause-reads g c = record { reads = on_content _ (some_more (there extension_value sequence_tag {Q = IsExtension _} _ c.in-Ok-Some.field-0-is c.in-Ok-Some.ensures.reads)) }
