@@ -1,5 +1,5 @@
 -- Where a certificate's fields weren't written, or not signed.
-use Rattle.std.proofs.Common.{◌≡◌, ◌≢◌, ℕ, ◌≤◌, List, Result, Ok, Err, IfErr, refl, subst}
+use Rattle.std.proofs.Common.{◌≡◌, ◌≢◌, ℕ, ◌≤◌, List, Result, Ok, Err, IfErr, refl, sym, subst}
 use Rattle.certs.specs.bcder_tree.declared.mode.Mode.TheVariants.{Der}
 use Rattle.certs.specs.bcder_values.Gathered.{ExtendRefused}
 use Rattle.certs.specs.bcder_primitive.Writing.{HasLength}
@@ -30,9 +30,13 @@ pub not_written : {A : Type 0} {v c : TbsValue} (r : Result A EncodeError) → v
 not_written {v = v} r same p m = subst (λ (z : TbsValue). IfErr r (NotWritten z)) same (none_written v r p m)
 
 -- Whatever the signer answers of what is written of the fields.
-pub any_refused : {E : Type 0} (refuses : List ℕ → SigningError E → Type 0) (c : TbsValue) (text : List ℕ) (e : SigningError E) → WritesTbs c text → e ≢ errors.TooLong → refuses text e → SigningRefused refuses c e
-any_refused refuses c text errors.KeyNotFound w n r = ((text, w), (text, w, r))
-any_refused refuses c text errors.IncompatibleKey w n r = ((text, w), (text, w, r))
-any_refused refuses c text (errors.Signer e) w n r = ((text, w), (text, w, r))
-any_refused refuses c text errors.TooLong w n r = absurd (n refl)
-any_refused refuses c text errors.Memory w n r = (text, w)
+told : {E : Type 0} (refuses : List ℕ → SigningError E → Type 0) (c : TbsValue) (text : List ℕ) (e : SigningError E) → WritesTbs c text → e ≢ errors.TooLong → refuses text e → SigningRefused refuses c e
+told refuses c text errors.KeyNotFound w n r = ((text, w), (text, w, r))
+told refuses c text errors.IncompatibleKey w n r = ((text, w), (text, w, r))
+told refuses c text (errors.Signer e) w n r = ((text, w), (text, w, r))
+told refuses c text errors.TooLong w n r = absurd (n refl)
+told refuses c text errors.Memory w n r = (text, w)
+
+-- As it is lent.
+pub any_refused : {E : Type 0} (refuses : List ℕ → SigningError E → Type 0) (c : TbsValue) (text lent : List ℕ) (e : SigningError E) → lent ≡ text → WritesTbs c text → e ≢ errors.TooLong → refuses lent e → SigningRefused refuses c e
+any_refused refuses c text lent e same w n r = told refuses c lent e (subst (WritesTbs c) (sym same) w) n r

@@ -1,5 +1,5 @@
 -- Where a list wasn't written, or not signed.
-use Rattle.std.proofs.Common.{◌≢◌, ℕ, List, Result, Ok, Err, IfErr, refl}
+use Rattle.std.proofs.Common.{◌≡◌, ◌≢◌, ℕ, List, Result, Ok, Err, IfErr, refl, sym, subst}
 use Rattle.certs_x509.specs.bcder_values.Writable.{Writable}
 use Rattle.certs_x509.specs.bcder_primitive.declared.written.error.EncodeError.{EncodeError}
 use Rattle.certs_x509.specs.bcder_primitive.declared.written.error.EncodeError.TheVariants as causes
@@ -26,9 +26,13 @@ module _ (c : TbsListValue) (P : List ℕ → Type 0) (sound : (text : List ℕ)
   not_written (Err e) h = why e h
 
 -- Whatever the signer answers of what is written of the list.
-pub any_refused : {E : Type 0} (refuses : List ℕ → SigningError E → Type 0) {c : TbsListValue} (text : List ℕ) (e : SigningError E) → WritesInDer c text → e ≢ errors.TooLong → refuses text e → SigningRefused refuses c e
-any_refused refuses text errors.KeyNotFound w n r = ((text, w), (text, w, r))
-any_refused refuses text errors.IncompatibleKey w n r = ((text, w), (text, w, r))
-any_refused refuses text (errors.Signer e) w n r = ((text, w), (text, w, r))
-any_refused refuses text errors.TooLong w n r = absurd (n refl)
-any_refused refuses text errors.Memory w n r = (text, w)
+told : {E : Type 0} (refuses : List ℕ → SigningError E → Type 0) {c : TbsListValue} (text : List ℕ) (e : SigningError E) → WritesInDer c text → e ≢ errors.TooLong → refuses text e → SigningRefused refuses c e
+told refuses text errors.KeyNotFound w n r = ((text, w), (text, w, r))
+told refuses text errors.IncompatibleKey w n r = ((text, w), (text, w, r))
+told refuses text (errors.Signer e) w n r = ((text, w), (text, w, r))
+told refuses text errors.TooLong w n r = absurd (n refl)
+told refuses text errors.Memory w n r = (text, w)
+
+-- As it is lent.
+pub any_refused : {E : Type 0} (refuses : List ℕ → SigningError E → Type 0) (c : TbsListValue) (text lent : List ℕ) (e : SigningError E) → lent ≡ text → WritesInDer c text → e ≢ errors.TooLong → refuses lent e → SigningRefused refuses c e
+any_refused refuses c text lent e same w n r = told refuses {c} lent e (subst (WritesInDer c) (sym same) w) n r
