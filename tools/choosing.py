@@ -6,12 +6,13 @@ certificate that names its URI; and of the files that this lists the copies that
 has signed, or that stands where it isn't listed, is nobody's, and takes no other's place.
 
 Of several manifests of one authority that one counts which stands in the store that its certificate names: where its objects
-come by rsync, or the server of its notification file (RFC 8182 3.2). Where folders' names don't tell the server, or it has
-several, it is one that is valid at the moment, then one whose files are all there, then the one of the greatest number.
+come by rsync, or the server of its notification file (RFC 8182 3.2). Folders' names may not tell the server, and a server may
+have several. Of these it is one that is valid at the moment, then one whose files are all there, then the one of the greatest
+number.
 
-Where two authorities claim one URI with copies of their own, the one stands that has the object of that URI in the bundle of
-the run before; else the one whose store has the URI's host, or more of the last labels of that host's name; else the one with
-fewer certificates above it; else the one whose certificate is older. Each request to helpers reads each copy once, so all is
+Two authorities may claim one URI with copies of their own. The one stands that has the object of that URI in the bundle of the
+run before. Else it is the one whose store has the URI's host, or more of the last labels of that host's name; else the one
+with fewer certificates above it; else the one whose certificate is older. Each request to helpers reads each copy once, so all is
 linear in the files of the cache.
 """
 
@@ -19,8 +20,11 @@ import collections
 import hashlib
 
 import caches
+import points
 from taking import PIECE_FILES, around, path_of, uri_of
 
+# Files of so many octets are handed to a helper apart from others.
+LARGE = 20_000
 # A host that is the same has more labels in common than others can have.
 ALL_LABELS = 1000
 KNOWN, HOST = "known", "host"
@@ -85,12 +89,13 @@ class Point:
             count += 1
         return count
 
+    def names(self):
+        """The names of the files of its manifest."""
+        return points.names_of(self.copy.manifest)
+
     def entries(self):
-        """The names and the digests of the files of its manifest."""
-        manifest = self.copy.manifest
-        size = hashlib.sha256().digest_size
-        for at, name in enumerate(manifest.names):
-            yield name, manifest.digests[at * size : (at + 1) * size]
+        """The same, each with its digest."""
+        return points.entries_of(self.copy.manifest)
 
 
 class Tree:
@@ -110,15 +115,15 @@ class Tree:
         """Reads who publishes where, as far as chains may go."""
         wave = self.find_anchors(tals)
         for _ in range(self.depth):
-            points = self.admit(wave)
-            if not points:
+            changed = self.admit(wave)
+            if not changed:
                 break
-            self.read_manifests(points)
-            self.choose(points)
-            wave = self.read_certs(points)
+            self.read_manifests(changed)
+            self.choose(changed)
+            wave = self.read_certs(changed)
 
     def ask(self, name, jobs):
-        """The answers of helpers to jobs, each with its job's key; a job is that key, its copies' count and the words."""
+        """The answers of helpers to jobs, each with its job's key; a job is that key, how much there is to read, and the words."""
         pieces, piece, count = [], [], 0
         for job in jobs:
             piece.append(job)
@@ -140,7 +145,7 @@ class Tree:
         """A job about a path's copies, or about those below the roots of these numbers."""
         numbers = self.listing.copies(path) if numbers is None else numbers
         folders = [self.listing.place(number, path) for number in numbers]
-        return key, len(numbers), (path.rpartition("/")[2], folders, *words)
+        return key, len(numbers) * (1 + self.listing.size(path) // LARGE), (path.rpartition("/")[2], folders, *words)
 
     def find_anchors(self, tals):
         """The certificates of trust anchors, each with its path and without a parent."""
@@ -170,25 +175,25 @@ class Tree:
                 changed[key] = self.points[key]
         return list(changed.values())
 
-    def read_manifests(self, points):
+    def read_manifests(self, changed):
         """Reads the copies of manifests that weren't read yet: of a path all, and of those read before the ones by new keys."""
         first, again = collections.defaultdict(dict), []
-        for point in points:
+        for point in changed:
             if point.path not in self.signers:
                 first[point.path][point.identifier] = point.bits
             elif any(copy.manifest is None for copy in self.signers[point.path].get(point.identifier, ())):
                 again.append(point)
-        jobs = [self.job((path, None), path, keys) for path, keys in first.items()]
+        self.signers.update((path, {}) for path in first)
+        jobs = [self.job((path, None), path, keys) for path, keys in first.items() if self.listing.copies(path)]
         for point in again:
             copies = self.signers[point.path].pop(point.identifier)
             numbers = [number for copy in copies for number in copy.places]
             jobs.append(self.job((point.path, numbers), point.path, {point.identifier: point.bits}, numbers=numbers))
         for (path, numbers), found in self.ask("manifests", jobs):
             numbers = self.listing.copies(path) if numbers is None else numbers
-            held = self.signers.setdefault(path, {})
             for copy in found:
                 copy = copy._replace(places=[numbers[place] for place in copy.places])
-                held.setdefault(copy.identifier, []).append(copy)
+                self.signers[path].setdefault(copy.identifier, []).append(copy)
 
     def good_copies(self, point):
         return [copy for copy in self.signers.get(point.path, {}).get(point.identifier, ()) if copy.manifest]
@@ -201,18 +206,18 @@ class Tree:
     def is_valid(self, copy):
         return copy.manifest.first <= self.moment <= copy.manifest.last
 
-    def choose(self, points):
+    def choose(self, changed):
         """Chooses the manifest of each of these authorities."""
         several = []
-        for point in points:
+        for point in changed:
             ranked = [((*self.store(point, copy), not self.is_valid(copy)), copy) for copy in self.good_copies(point)]
             best = min((rank for rank, _ in ranked), default=None)
             copies = [copy for rank, copy in ranked if rank == best]
             point.copy = copies[0] if copies else None
             if len(copies) > 1:
                 several.append((point, copies))
-        names = (f"{point.folder}/{name}" for point, copies in several for copy in copies for name in copy.manifest.names)
-        self.read_digests(names)
+        self.read_digests(f"{point.folder}/{name}" for point, copies in several for copy in copies
+                          for name in points.names_of(copy.manifest))
         for point, copies in several:
             point.copy = max(copies, key=lambda copy: (self.is_whole(point, copy), copy.manifest.number, copy.manifest.first))
 
@@ -228,20 +233,17 @@ class Tree:
 
     def is_whole(self, point, copy):
         """Whether each file that a manifest lists has a copy with its digest."""
-        size = hashlib.sha256().digest_size
-        return all(
-            copy.manifest.digests[at * size : (at + 1) * size] in self.digests.get(f"{point.folder}/{name}", ())
-            for at, name in enumerate(copy.manifest.names)
-        )
+        entries = points.entries_of(copy.manifest)
+        return all(digest in self.digests.get(f"{point.folder}/{name}", ()) for name, digest in entries)
 
-    def read_certs(self, points):
+    def read_certs(self, changed):
         """The certificates that these authorities' manifests list, each with its path and the authority."""
         jobs = []
-        for point in points:
+        for point in changed:
             if point.copy is None or point.copy.digest in point.listed_of:
                 continue
             point.listed_of.add(point.copy.digest)
-            self.look(point.folder, point.copy.manifest.names)
+            self.look(point.folder, point.names())
             for name, digest in point.entries():
                 path = f"{point.folder}/{name}"
                 if name[-4:].lower() == ".cer" and (path, digest) not in self.seen and self.listing.copies(path):

@@ -33,10 +33,22 @@ RSYNC_URI, HTTPS_URI = re.compile(rb"(?i)rsync://[!-.0-~]+/[!-.0-~]+/[!-~]+\Z"),
 # notification file (None where there is none), and the first and the last moment of its validity.
 Authority = collections.namedtuple("Authority", "identifier bits manifest notification first last")
 
-# A manifest: its number, the first and the last moment, the names of its files, and their digests one after the other.
+# A manifest: its number, the first and the last moment, the names of its files, each with a line's end behind it, and their
+# digests one after the other. So it takes no more memory than octets, however many files it lists.
 Manifest = collections.namedtuple("Manifest", "number first last names digests")
 
-DIGEST = hashlib.sha256().digest_size
+DIGEST, LINE_END = hashlib.sha256().digest_size, b"\n"
+
+
+def names_of(manifest):
+    """The names of a manifest's files."""
+    return manifest.names.decode("latin-1").split("\n")[:-1]
+
+
+def entries_of(manifest):
+    """The names of a manifest's files, each with its digest."""
+    for at, name in enumerate(names_of(manifest)):
+        yield name, manifest.digests[at * DIGEST : (at + 1) * DIGEST]
 
 
 def moment_at(values):
@@ -142,15 +154,32 @@ def listed(content):
     number = int.from_bytes(values.octets[start:stop], "big")
     first, last = moment_at(values), moment_at(values)
     values.skip((OID, "the digests' algorithm"))
-    rows, names, digests = values.inside(SEQUENCE, "the files"), [], []
+    start, stop = values.next(SEQUENCE, "the files")
+    try:
+        rows = list(files_in(content, start, stop))
+    except Malformed:
+        rows = list(files_in_ber(Values(content, start, stop, values.ends)))
+    if any(LINE_END in name or len(digest) != DIGEST for name, digest in rows):
+        raise Malformed("a file's name has a line's end, or a digest isn't one of SHA-256")
+    names = b"".join(name + LINE_END for name, _ in rows)
+    return Manifest(number, first, last, names, b"".join(digest for _, digest in rows))
+
+
+def files_in(octets, at, end):
+    """The files of a manifest in DER: of each its name and its digest."""
+    while at < end:
+        row, at = signed.enter(octets, at, end, SEQUENCE, "a file")
+        start, stop = signed.enter(octets, row, at, IA5, "a file's name")
+        first, last = signed.enter(octets, stop, at, BIT_STRING, "a file's digest")
+        yield octets[start:stop], octets[first + 1 : last]
+
+
+def files_in_ber(rows):
+    """The same in BER."""
     while not rows.is_at_end():
         row = rows.inside(SEQUENCE, "a file")
         start, stop = row.next(IA5, "a file's name")
-        names.append(row.octets[start:stop].decode("latin-1"))
-        digests.append(row.bits("a file's digest")[1:])
-    if any(len(digest) != DIGEST for digest in digests):
-        raise Malformed("a digest isn't one of SHA-256")
-    return Manifest(number, first, last, names, b"".join(digests))
+        yield row.octets[start:stop], row.bits("a file's digest")[1:]
 
 
 def count_of(kind, content, most):

@@ -34,7 +34,7 @@ class Shares:
     def files(self, point):
         """The files of a point that are listed, each a folder and a name."""
         held = self.listing.folders.get(point.folder, {})
-        yield from ((point.folder, name) for name in point.copy.manifest.names if name in held)
+        yield from ((point.folder, name) for name in point.names() if name in held)
         out, _, name = point.path.rpartition("/")
         if name in held:
             yield out, name

@@ -142,6 +142,11 @@ class Listing:
         found = self.folders.get(out, {}).get(name)
         return [] if found is None else roots_of(found)
 
+    def size(self, path):
+        """The octets of a path's first copy, as they were listed."""
+        out, _, name = path.rpartition("/")
+        return size_of(self.folders[out][name])
+
     def place(self, number, path):
         """The names that lead to the folder of a path's copy, below the root of that number."""
         return self.roots[number].names(path.rpartition("/")[0])

@@ -97,7 +97,7 @@ TESTS = (
     Test("building", "outside/building.py", 300),
     Test("cache", "outside/cache.py {rpki_check} {rpki_ask}", 300, needs=("cryptography",)),
     Test("odd caches", "outside/odd_caches.py {rpki_check}", 0, 600, needs=("cryptography",)),
-    Test("copies", "outside/copies.py {rpki_check}", 0, 600, needs=("cryptography",)),
+    Test("copies", "outside/copies.py {rpki_check}", 0, 900, needs=("cryptography",)),
     Test("limits", "outside/limits.py {rpki_check}", 300, needs=("cryptography",)),
     Test("odd signatures", "outside/odd_signatures.py", 0, 600, needs=("cryptography",)),
     Test("interrupted", "outside/interrupted.py", 0, 1800, needs=("cryptography",)),

@@ -260,6 +260,21 @@ def claimed(room, world, program):
             same(f"{layout}: others claim {what}: who loses", rows, {("host", False, one.at)})
 
 
+def absent(room, world, program):
+    """Where points, or files of them, aren't in the cache at all, the others' copies are chosen as ever."""
+    for gone in ("a1/", "a1/a1.mft", "a1/a1.crl", "a2/o0.roa"):
+        rest = {uri: octets for uri, octets in world.honest.items() if not uri.startswith(REPOSITORY + gone)}
+        numbers = ("AS100002 ",) if gone[:2] == "a1" else ("AS100004 ",)
+        lines = "".join(line for line in world.lines.splitlines(True) if not line.split(" ", 1)[1].startswith(numbers))
+        for layout in LAYOUTS:
+            cache = Cache(room, layout)
+            cache.put(HONEST_SERVER, rest)
+            put_others(cache, all_cut(world))
+            # (whose manifest is gone, whichever copies of its other files are taken, has no lines)
+            stays = {uri: octets for uri, octets in rest.items() if not uri.startswith(REPOSITORY + gone[:3])}
+            cache.run(f"without {gone}", stays, lines, program)
+
+
 class Renewed:
     """The first authority's point as it was, and as it is after its next manifest, which lists another ROA under an old name."""
 
@@ -442,6 +457,7 @@ def main():
         room = Room(folder, world.made)
         by_chance(world, 20_000)
         crowd(room, world)
+        absent(room, world, program)
         before(room, world, program)
         replayed(room, world, program)
         claimed(room, world, program)
