@@ -102,7 +102,7 @@ TESTS = (
     Test("odd signatures", "outside/odd_signatures.py", 0, 600, needs=("cryptography",)),
     Test("interrupted", "outside/interrupted.py", 0, 1800, needs=("cryptography",)),
     Test("validating", "outside/validating.py {rpki_check}", 0, 900, needs=("cryptography",)),
-    Test("publishers", "outside/publishers.py {rpki_check} {rpki_ask}", 400, 3600, needs=("cryptography",), more="--many"),
+    Test("publishers", "outside/publishers.py {rpki_check} {rpki_ask}", 600, 3600, needs=("cryptography",), more="--many"),
     Test("exceptions", "outside/exceptions.py", 300, 600, less="200", more="5000"),
     Test("guarding", "outside/guarding.py", 500, 1200, less="--quick"),
     Test("crowded", "outside/crowded.py", 400, needs=("cryptography",)),

@@ -314,24 +314,25 @@ def claimed(world, victim, is_spelled=True, **how):
 def letters(room, is_many):
     """The host in other letters: a copy that is cut, and one of a certificate that names it; of an anchor's manifest, or of one
     below."""
-    for at, layout in enumerate(LAYOUTS):
-        for place in ("anchors", "others") if is_many else (("anchors", "others")[at % 2],):
-            world = World()
-            it = getattr(world, place)[0]
-            world.publish()
-            manifest = f"{it.folder}{it.name}.mft"
-            world.objects[None, spelled(manifest)] = world.objects[None, manifest][:-100]
-            room.lay(world, layout)
-            room.stands()
-            room.gives(f"{layout}, a cut copy of {it.name}'s manifest", room.run("--layout", layout.split()[0]), WELL, world)
-            world = World()
-            it = getattr(world, place)[0]
-            leaf = claimed(world, it)
-            world.publish().add(leaf)
-            room.lay(world, layout)
-            room.stands()
-            done = room.run("--layout", layout.split()[0])
-            room.gives(f"{layout}, a certificate that names {it.name}'s manifest", done, PARTED, world, [it.at, leaf.at])
+    both = ("anchors", "others")
+    ways = itertools.product(LAYOUTS, both) if is_many else zip(("plain", "routinator"), both)
+    for layout, place in ways:
+        world = World()
+        it = getattr(world, place)[0]
+        world.publish()
+        manifest = f"{it.folder}{it.name}.mft"
+        world.objects[None, spelled(manifest)] = world.objects[None, manifest][:-100]
+        room.lay(world, layout)
+        room.stands()
+        room.gives(f"{layout}, a cut copy of {it.name}'s manifest", room.run("--layout", layout), WELL, world)
+        world = World()
+        it = getattr(world, place)[0]
+        leaf = claimed(world, it)
+        world.publish().add(leaf)
+        room.lay(world, layout)
+        room.stands()
+        done = room.run("--layout", layout)
+        room.gives(f"{layout}, a certificate that names {it.name}'s manifest", done, PARTED, world, [it.at, leaf.at])
 
 
 def files(room):
@@ -357,11 +358,11 @@ def servers(room, is_many):
     for at, layout in enumerate(APART):
         for notify, server in ways if is_many else (ways[at],):
             what = f"{layout}, {'RRDP' if notify else 'rsync'}, {'before' if server == first else 'behind'}"
-            of_others(room, layout, notify, server, what)
+            of_others(room, layout, notify, server, what, is_many)
             of_itself(room, layout, notify, server, what)
 
 
-def of_others(room, layout, notify, server, what):
+def of_others(room, layout, notify, server, what, is_many):
     """Its server has other people's manifest, cut, or an older one that lists less and is signed well."""
     world = World(notify)
     leaf = world.attacker(notify=server).certified()
@@ -369,7 +370,8 @@ def of_others(room, layout, notify, server, what):
     it = world.others[0]
     manifest = f"{it.folder}{it.name}.mft"
     older = World(notify, origins=2).publish().objects[notify, manifest]
-    for name, octets in (("cut", world.objects[notify, manifest][:-100]), ("older", older)):
+    ways = {"older": older, "cut": world.objects[notify, manifest][:-100]}
+    for name, octets in list(ways.items())[: 2 if is_many else 1]:
         world.objects[server, manifest] = octets
         room.lay(world, layout)
         room.stands()
