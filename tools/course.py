@@ -6,6 +6,7 @@ import shutil
 import sys
 
 import cutting
+import faults
 import given as arguments
 import guards
 import lines_to
@@ -28,7 +29,7 @@ BESIDE_LEAST, BESIDE_TIMES, REASONS_OCTETS = 10, 4, 1 << 26
 MOST_LOCATORS = 64
 OUT_OF_MEMORY = b"out of memory\n"
 # What the statuses of verdicts.py mean here; another is its own fault.
-OF_VERDICTS = {USAGE: USAGE, GUARD: GUARD, MEMORY: MEMORY, FULL: FULL, 10: FAULT}
+OF_VERDICTS = {USAGE: USAGE, GUARD: GUARD, MEMORY: MEMORY, FULL: FULL, faults.NO_LIBRARY: FAULT}
 
 
 class Run:

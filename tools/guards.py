@@ -64,7 +64,7 @@ def failing(given, proved, drop, report):
 
 def fewer(before, now):
     """Below which trust anchors there are fewer origins than in the run that made the file, the most first, in words."""
-    if not isinstance(before, dict) or now is None:
+    if before is None or now is None:
         return
     rows = [(now.get(name, {}).get("origins", 0), then["origins"], name) for name, then in before.items()]
     for found, then, name in sorted(rows, key=lambda row: (row[0] - row[1], row[2])):

@@ -9,11 +9,13 @@ import time
 
 import built
 import guards
+import lines_to
 import reports
 import statuses
 
-# So many octets of lists are kept; and so many contested URIs are told by name.
+# So many characters of lists are kept; and so many contested URIs are told by name.
 MOST_LISTED, MOST_CONTESTED = 1 << 26, 20
+PIECE = 1 << 16
 
 # What the JSON for routers has of exceptions.
 SLURM_TOLD = ("version", "removed", "added", "unused")
@@ -21,7 +23,8 @@ SLURM_TOLD = ("version", "removed", "added", "unused")
 
 @dataclasses.dataclass
 class Outcome:
-    """What is known of a run so far; a run that fails leaves the rest as it is here."""
+    """What is known of a run so far; a run that fails leaves the rest as it is here. `earlier` is what the run that made the file
+    that stands told of it, or None."""
 
     given: object
     earlier: dict
@@ -55,8 +58,7 @@ class Outcome:
     def standing(self):
         """What is known of the file that stands."""
         if not self.is_new:
-            found = self.earlier.get("standing")
-            return found if isinstance(found, dict) else None
+            return self.earlier
         numbers = {"origins": self.counts.origins, "customers": self.counts.customers, "anchors": self.anchors}
         return {"moment": self.given.moment, "status": self.status, **numbers}
 
@@ -197,8 +199,7 @@ def text_of_guards(outcome):
         more = ", .." if gone["gone"] > len(gone["first"]) else ""
         yield "info", f"gone: {gone['gone']:,} of {gone['before']:,} origins ({', '.join(gone['first'])}{more})"
     if outcome.guards:
-        standing = outcome.earlier.get("standing")
-        before = standing.get("anchors") if isinstance(standing, dict) else None
+        before = outcome.earlier and outcome.earlier["anchors"]
         yield from (("warning", f"MISSING: {line}") for line in guards.fewer(before, outcome.anchors))
 
 
@@ -221,18 +222,22 @@ def reach_text(reach):
 
 
 def lists(outcome, work):
-    """The text of all lists, each below a line that says what it is; empty where there is none."""
-    parts, left = [], MOST_LISTED
+    """The text of all lists, piece by piece, each list below a line that says what it is; nothing where there is none."""
+    left = MOST_LISTED
     for title, path in paths_of_lists(outcome, work):
+        yield f"# {title}\n"
         with open(path, errors="backslashreplace") as file:
-            octets = file.read(left + 1)
-        is_cut = len(octets) > left
-        parts.append(f"# {title}\n{octets[:left]}{'..' if is_cut else ''}\n")
-        left = max(0, left - len(octets))
-    contested = outcome.report.get("contested", [])
-    if contested:
-        parts.append("# contested\n" + "".join(f"{json.dumps(one)}\n" for one in contested) + "\n")
-    return "".join(parts)
+            while piece := file.read(min(PIECE, left)):
+                left -= len(piece)
+                yield piece
+            yield "\n" if not file.read(1) else "..\n\n"
+    slurm = outcome.slurm or {}
+    told = {"contested": outcome.report.get("contested"), "filters": slurm.get("filters"), "assertions": slurm.get("assertions")}
+    for title, rows in told.items():
+        if rows:
+            yield f"# {title}\n"
+            yield from (f"{json.dumps(one)}\n" for one in rows)
+            yield "\n"
 
 
 def paths_of_lists(outcome, work):
@@ -245,13 +250,15 @@ def paths_of_lists(outcome, work):
 
 
 def read_earlier(path):
-    """What the run before wrote, or nothing."""
+    """What the run before wrote of the file that stands; nothing where there is no such status."""
     try:
         with open(path) as file:
-            found = json.load(file)
-    except (OSError, ValueError):
-        return {}
-    return found if isinstance(found, dict) else {}
+            found = json.load(file)["standing"]
+        numbers = [row[name] for row in (found, *(found["anchors"] or {}).values()) for name in ("origins", "customers")]
+        is_sound = lines_to.is_moment(found["moment"]) and all(isinstance(one, int) for one in numbers)
+    except (OSError, ValueError, KeyError, TypeError, AttributeError):
+        return None
+    return found if is_sound else None
 
 
 def counted(reasons):

@@ -13,7 +13,6 @@ FOLDER = os.O_RDONLY | os.O_DIRECTORY | os.O_NOFOLLOW | os.O_CLOEXEC
 # What a folder of evidence holds; and one of a run that didn't go well, which holds of these what there was.
 KEPT = ("bundle", "lines", "verdicts", "summary.json")
 KEPT_APART = (*KEPT, "log", "report.json")
-PIECE = 1 << 20
 
 
 class Busy(Exception):
@@ -266,12 +265,12 @@ def publish(paths, write, go_on, before):
         sync(folder)
 
 
-def write_at_once(path, text):
-    """Writes a small file by one beside it."""
+def write_at_once(path, pieces):
+    """Writes pieces of text to a file by one beside it."""
     made = beside(path)
     try:
         with open(made, "w") as file:
-            file.write(text)
+            file.writelines(pieces)
         os.replace(made, path)
     except BaseException:
         if os.path.lexists(made):

@@ -25,7 +25,7 @@ ENDING = (signal.SIGTERM, signal.SIGINT, signal.SIGHUP)
 GRACE = 5
 # How often a step is looked at: so many seconds after its start, and later.
 FIRST_LOOK, LAST_LOOK = 0.002, 0.05
-# What is kept of what a step says, in octets, beside its lines in the log; and read of it once it has ended.
+# So many octets are kept of what a step said last, beside its lines in the log; so many are read once it has ended.
 MOST_SAID, MOST_DRAINED = 1 << 16, 1 << 20
 MIB = 1 << 20
 TIME, SPACE = "time", "memory"
@@ -80,7 +80,7 @@ class Relay:
         except BlockingIOError:
             return 0
         self.is_over = not octets
-        self.said += octets[: MOST_SAID - len(self.said)]
+        self.said = (self.said + octets)[-MOST_SAID:]
         *lines, self.part = (self.part + octets).split(b"\n")
         for line in lines:
             self.log.relay(line, self.who, self.level)

@@ -75,6 +75,7 @@ says it and a level.
 """
 
 import contextlib
+import itertools
 import json
 import os
 import signal
@@ -90,7 +91,7 @@ import slurm  # noqa: E402
 from log import Log  # noqa: E402
 from places import Busy, Evidence, Work, remove, write_at_once  # noqa: E402
 from statuses import BUSY, FAULT, NEW, WELL, Failed, Stopped, failure_of  # noqa: E402
-from steps import Steps  # noqa: E402
+from steps import ENDING, Steps  # noqa: E402
 
 
 def check(given):
@@ -158,11 +159,14 @@ class Run:
     def leave(self):
         """Tells the summary, keeps the evidence, and writes the files of status: none of it changes how the run ends."""
         self.guarded("the lists", self.leave_lists)
-        for level, text in outcome.text(self.told, self.steps):
-            self.log.tell(text, level)
+        self.guarded("the summary", self.tell_summary)
         self.tell_end()
         self.guarded("the evidence", self.leave_evidence)
         self.leave_status()
+
+    def tell_summary(self):
+        for level, text in outcome.text(self.told, self.steps):
+            self.log.tell(text, level)
 
     def tell_end(self):
         told, names = self.told, ", ".join(out.path for out in self.given.outs)
@@ -171,18 +175,19 @@ class Run:
             without = ", without what was left out" if told.status != WELL else ""
             forced = ", by --force" if told.guards else ""
             return self.log.tell(f"{names} {verb} new{without}{forced}", "warning" if without or forced else "info")
-        return self.log.tell(f"status {told.status}: {told.why}; {names} {verb} as {'they were' if verb == 'are' else 'it was'}", "error")
+        before = "they were" if verb == "are" else "it was"
+        return self.log.tell(f"status {told.status}: {told.why}; {names} {verb} as {before}", "error")
 
     def leave_lists(self):
         if self.evidence is None:
             return
-        text = outcome.lists(self.told, self.evidence.work)
+        pieces = outcome.lists(self.told, self.evidence.work)
         path = f"{self.given.status.removesuffix('.json')}.lists"
-        if text:
-            write_at_once(path, text)
-            self.told.lists = path
-        else:
-            remove(path)
+        first = next(pieces, None)
+        if first is None:
+            return remove(path)
+        write_at_once(path, itertools.chain([first], pieces))
+        self.told.lists = path
 
     def leave_evidence(self):
         if self.evidence is None:
@@ -193,10 +198,10 @@ class Run:
             self.evidence.keep_apart(self.told.as_dict(self.steps), self.told.status in NEW)
 
     def leave_status(self):
-        found = self.told.as_dict(self.steps)
-        self.guarded("the status", lambda: write_at_once(self.given.status, json.dumps(found, indent=2) + "\n"))
-        if self.given.metrics:
-            self.guarded("the metrics", lambda: write_at_once(os.path.abspath(self.given.metrics), metrics.text(found)))
+        given, told = self.given, lambda: self.told.as_dict(self.steps)
+        self.guarded("the status", lambda: write_at_once(given.status, [json.dumps(told(), indent=2), "\n"]))
+        if given.metrics:
+            self.guarded("the metrics", lambda: write_at_once(os.path.abspath(given.metrics), [metrics.text(told())]))
 
     def guarded(self, what, deed):
         """Does what the files don't depend on; where it fails, that is told."""
@@ -207,6 +212,9 @@ class Run:
 
 
 def main():
+    for number in ENDING:
+        # (so that a signal that comes before the first step ends it without words)
+        signal.signal(number, signal.SIG_DFL)
     given = arguments.arguments(__doc__)
     log = Log(given.log)
     status = Run(given, log).status()

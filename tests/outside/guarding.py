@@ -12,6 +12,7 @@ those are asked alone that take no time. Exits with 1 at the first answer that d
 import json
 import os
 import re
+import signal
 import subprocess
 import sys
 import tempfile
@@ -219,8 +220,8 @@ def faults(room):
         room.ends(f"verdicts.py ends with {status}", wanted, deed=f"ends {status}", wanted=("told why",))
     no_room = "OSError(28, 'No space left on device')"
     for what, name in (("the form", "lines_to.write"), ("the guards", "guards.gone_from"), ("publishing", "places.keep_rights")):
-        for fault, status, said in ((no_room, 9, "the disk is full"), ("MemoryError", 8, "memory is short"),
-                                    ("KeyError('x')", 1, "a fault of the tool itself")):
+        for fault, status, said in ((no_room, 9, "the disk is full"), ("MemoryError", 8, "out of memory"),
+                                    ("KeyError('x')", 1, "a fault of this program: KeyError")):
             change = f"def deed(*_):\n  raise {fault}\n{name} = deed"
             room.ends(f"{what}: {fault}", status, change=change, wanted=(said,))
     room.ends("a full disk at bundle", 9, fake="bundle fails", change="course.is_full = lambda _: True", wanted=("the disk is full",))
@@ -290,6 +291,14 @@ def status_files(room):
     room.ends("another place", 0, "--status", other)
     same("the status there", json.loads(read(other))["status"], 0)
     room.ends("a place that isn't there", 0, "--status", room.path("none", "x"), "--metrics", room.path("none", "y"), wanted=("the status can't be written",))
+
+
+def odd_status(room):
+    """A status file of other things doesn't keep a run from its end."""
+    for text in ("", "[]", "{}", '{"standing": 1}', '{"standing": {"moment": "x", "anchors": {"a": 1}}}', '{"standing": {"anchors": {"a": {"origins": "x"}}}}'):
+        write(room.status, text)
+        done = room.ends(f"a status file of {text!a}", 7, "--metrics", room.path("metrics"), lines="")
+        same("nothing is told of it", "can't be written" in done.stderr, False)
 
 
 def lists(room):
@@ -373,6 +382,12 @@ def outs(room):
     room.ends("three files where one can't be written", 9, *words, change="write = lines_to.write\ndef deed(form, *more):\n"
               "  if form == 'openbgpd': raise OSError(28, 'full')\n  return write(form, *more)\nlines_to.write = deed")
     same("none is new", (read(csv), read(openbgpd)), (OLD, OLD))
+    kills = "import os, signal\nreal = os.replace\ndef deed(before, after):\n  os.kill(os.getpid(), 9) if after.endswith('csv') else real(before, after)\n"
+    room.reset()
+    done = room.go(*words, change=f"{kills}os.replace = deed")
+    same("killed between two renames", (done.returncode, read(room.out) == OLD, read(csv)), (-signal.SIGKILL, False, OLD))
+    room.ends("the next run", 0, *words)
+    same("all are new", OLD in (read(csv), read(openbgpd)), False)
     room.ends("one file twice", 2, "--out", f"csv={room.out}", "--out", room.out)
     lock = room.path("out", ".routes.csv.work")
     holding = "import fcntl, os, sys; fcntl.flock(os.open(sys.argv[1], os.O_RDONLY), fcntl.LOCK_EX); print(flush=True); input()"
@@ -403,10 +418,12 @@ def slurm(room):
     rules = {"slurmVersion": 1, "validationOutputFilters": {"prefixFilters": [{"asn": 64490}], "bgpsecFilters": []},
              "locallyAddedAssertions": {"prefixAssertions": [{"asn": 64511, "prefix": "198.51.100.0/24"}], "bgpsecAssertions": []}}
     path = write(room.path("slurm.json"), json.dumps(rules))
+    lists = f"{room.out}.status.lists"
     room.ends("exceptions", 0, "--slurm", path, "--form", "csv", lines="".join(FIVE), wanted=("1 lines filtered, 1 asserted",))
     rows = ["AS64491,192.0.1.0/24,24", "AS64492,192.0.2.0/24,24", "AS64511,198.51.100.0/24,24", "AS64499,2001:db8::/32,48", "AS64499,2001:db8:1::/48,48"]
     same("what is written", read(room.out).splitlines()[1:], rows)
     same("what is counted", [room.told()["slurm"][name] for name in ("removed", "added")], [1, 1])
+    same("each rule is listed", [line.partition(" ")[0] for line in read(lists).splitlines() if line.startswith("#")], ["#", "#"])
     room.ends("its metadata", 0, "--slurm", path, lines="".join(FIVE))
     same("in JSON", json.loads(read(room.out))["metadata"]["slurm"], {"version": 1, "removed": 1, "added": 1, "unused": 0})
     room.ends("what is asserted isn't proved", 7, "--slurm", path, lines="", wanted=("there are 0 origins",))
@@ -453,8 +470,8 @@ def programs(room):
     same("--version", (done.returncode, [text for text in texts if text not in done.stdout]), (0, []))
 
 
-QUICK = (anchors_and_origins, drops, by_anchor, lists, contested, evidence, logs, outs, owners, slurm, moments, status_files, programs)
-SLOW = (many, limits, faults, full)
+QUICK = (anchors_and_origins, by_anchor, contested, outs, slurm, status_files)
+SLOW = (drops, lists, odd_status, evidence, logs, owners, moments, programs, many, limits, faults, full)
 
 
 def main():

@@ -10,7 +10,8 @@ authority of a row certifies all of the next row, so that many chains end alike:
 each certificate is asked of small ones, and of 2^32 with a limit. 70 URIs of 70
 authorities are asked what they reach, together, and which chains name them; and once 69 that nobody names, with one that is
 named. Bundles have some octets in large files that manifests list: 17 MB, with --huge 64 and 200 MB, too, and with --small
-2 MB. tools/lines_to.py and tools/slurm.py are measured over many lines: an origin more takes 100 octets of memory at most. All answers are stated here, but of small lattices in which a key is certified again below: these are those of the second
+2 MB. tools/lines_to.py and tools/slurm.py are measured over many lines: an origin more takes 100 octets of memory at most.
+All answers are stated here, but of small lattices in which a key is certified again below: these are those of the second
 reading (`rpki_model`).
 
 Prints a line for each answer that isn't right, and `N passed, M failed`; exits with 1 where one failed.
