@@ -26,13 +26,13 @@ module _ (c : TbsListValue) (P : List ℕ → Type 0) (sound : (text : List ℕ)
   not_written (Err e) h = why e h
 
 -- Whatever the signer answers of what is written of the list.
-told : {E : Type 0} (refuses : List ℕ → SigningError E → Type 0) {c : TbsListValue} (text : List ℕ) (e : SigningError E) → WritesInDer c text → e ≢ errors.TooLong → refuses text e → SigningRefused refuses c e
-told refuses text errors.KeyNotFound w n r = ((text, w), (text, w, r))
-told refuses text errors.IncompatibleKey w n r = ((text, w), (text, w, r))
-told refuses text (errors.Signer e) w n r = ((text, w), (text, w, r))
-told refuses text errors.TooLong w n r = absurd (n refl)
-told refuses text errors.Memory w n r = (text, w)
+told : {E : Type 0} (refuses : List ℕ → SigningError E → Type 0) (c : TbsListValue) (text : List ℕ) (e : SigningError E) → WritesInDer c text → e ≢ errors.TooLong → refuses text e → SigningRefused refuses c e
+told refuses c text errors.KeyNotFound w n r = ((text, w), (text, w, r))
+told refuses c text errors.IncompatibleKey w n r = ((text, w), (text, w, r))
+told refuses c text (errors.Signer e) w n r = ((text, w), (text, w, r))
+told refuses c text errors.TooLong w n r = absurd (n refl)
+told refuses c text errors.Memory w n r = (text, w)
 
 -- As it is lent.
 pub any_refused : {E : Type 0} (refuses : List ℕ → SigningError E → Type 0) (c : TbsListValue) (text lent : List ℕ) (e : SigningError E) → lent ≡ text → WritesInDer c text → e ≢ errors.TooLong → refuses lent e → SigningRefused refuses c e
-any_refused refuses c text lent e same w n r = told refuses {c} lent e (subst (WritesInDer c) (sym same) w) n r
+any_refused refuses c text lent e same w n r = told refuses c lent e (subst (WritesInDer c) (sym same) w) n r
