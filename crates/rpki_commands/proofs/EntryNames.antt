@@ -5,8 +5,7 @@ use Rattle.std.proofs.lemmas.Bool.{cases_eq, cond_both, eqb-false}
 use Rattle.std.proofs.lemmas.List.{get_or_append_left}
 use Rattle.std.specs.Path.{rfind_below, rsplit_once, slash}
 use Rattle.std.specs.Prelude.{option_map, unwrap_or}
-use Rattle.rpki_commands.specs.declared.folder.walk.Pending.{Pending}
-use Rattle.rpki_commands.specs.Limits.{IsAtLevel, IsEntryName, IsPending, IsScheme, path_of}
+use Rattle.rpki_commands.specs.Limits.{IsAtLevel, IsEntryName, IsScheme, path_of}
 
 abbrev IsBehind : Option ℕ → ℕ → Type 0
 IsBehind None i = Unit {0}
@@ -66,7 +65,3 @@ level_of_scheme uri h = record {
   names_are = All-nil IsEntryName;
   level_is = refl;
 }
-
--- An entry of a folder that is listed is at the folder's level.
-pub entry_of : (folder : Pending) (name uri : List ℕ) → IsPending folder → IsEntryName name → uri ≡ string_bytes folder.uri ++ (47 ∷ name) → IsAtLevel folder.level uri
-entry_of folder name uri i h whole = subst (λ n. IsAtLevel n uri) i.level_is (level_below i.above (string_bytes folder.uri) name uri i.at_level h whole)

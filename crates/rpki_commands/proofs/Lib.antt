@@ -9,6 +9,7 @@ pub mod Words
 pub mod Lacking
 pub mod EntryNames
 pub mod Walking
+mod Taking
 pub mod of_bcder_tree
 pub mod of_certs_basics
 pub mod of_rpki_bundle

@@ -7,8 +7,8 @@ use Rattle.std.specs.declared.io.Error.{Error}
 use Rattle.std.specs.declared.io.ErrorKind.TheVariants.{NotFound, OutOfMemory}
 use Rattle.rpki_commands.specs.declared.folder.ReadFault.{ReadFault}
 use Rattle.rpki_commands.specs.declared.folder.ReadFault.TheVariants.{Read, Memory}
-use Rattle.rpki_commands.specs.declared.folder.files.Kind.{Kind}
-use Rattle.rpki_commands.specs.declared.folder.files.Kind.TheVariants.{Absent, File, Folder}
+use Rattle.rpki_commands.specs.declared.folder.disk.Kind.{Kind}
+use Rattle.rpki_commands.specs.declared.folder.disk.Kind.TheVariants.{Absent, File, Folder}
 
 -- Lack of memory where the error's kind is just that, and a read fault where it is any other.
 pub record IsToldAs (error : Error) (fault : ReadFault) : Type 0 where

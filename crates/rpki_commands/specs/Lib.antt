@@ -6,6 +6,7 @@ pub mod Faults
 pub mod Lines
 pub mod Verdicts
 pub mod Folders
+pub mod Disks
 pub mod Limits
 pub mod Texts
 pub mod Programs

@@ -7,6 +7,7 @@ use Rattle.rpki_validator.specs.Run.{Prints}
 use Rattle.rpki_digests.specs.Fips.{fips}
 use Rattle.rpki_commands.specs.Arguments.{Asks}
 use Rattle.rpki_commands.specs.Checks.{EndsInFault}
+use Rattle.rpki_commands.specs.Disks.{Said}
 use Rattle.rpki_commands.specs.Texts.{WritesBundle, EndsWithFault}
 use Rattle.rpki_commands.specs.declared.arguments.Command.{Command}
 use Rattle.rpki_commands.specs.declared.arguments.Command.TheVariants.{Check, Bundle}
@@ -16,33 +17,33 @@ abbrev pub AskedFor : Result (Vec (String Global) Global) Error → Option Comma
 AskedFor (Ok words) command = Asks (map string_bytes words.items) command
 AskedFor (Err error) command = command ≡ None
 
--- Status 0: all of the command was done.
-abbrev pub Does : Option Command → Option (List ℕ) → Option (List ℕ) → Option (List ℕ)
+-- In what follows `says` is what the disk says. Status 0: all of the command was done.
+abbrev pub Does : (Said → Type 0) → Option Command → Option (List ℕ) → Option (List ℕ) → Option (List ℕ)
     → Option (List ℕ) → Counts → Counts → Type 0
-Does None r r' w w' reads writes = ⊥
-Does (Some Check) r r' w w' reads writes =
+Does says None r r' w w' reads writes = ⊥
+Does says (Some Check) r r' w w' reads writes =
     Prints fips r r' w w' × (reads.after ≡ reads.before) × (writes.after ≡ writes.before)
-Does (Some (Bundle folder)) r r' w w' reads writes =
-    IsLeft r r' reads × WritesBundle w w' × (writes.after ≡ writes.before)
+Does says (Some (Bundle folder)) r r' w w' reads writes =
+    IsLeft r r' reads × WritesBundle says folder.now w w' × (writes.after ≡ writes.before)
 
 -- Status 1: something was at fault, or there is no command, and then nothing is done.
-abbrev pub Fails : Option Command → Option (List ℕ) → Option (List ℕ) → Option (List ℕ)
+abbrev pub Fails : (Said → Type 0) → Option Command → Option (List ℕ) → Option (List ℕ) → Option (List ℕ)
     → Option (List ℕ) → Counts → Counts → Type 0
-Fails None r r' w w' reads writes = IsLeft r r' reads × IsLeft w w' writes
-Fails (Some Check) r r' w w' reads writes = EndsInFault r r' w w' reads writes
-Fails (Some (Bundle folder)) r r' w w' reads writes =
-    IsLeft r r' reads × EndsWithFault w w' writes.before writes.after
+Fails says None r r' w w' reads writes = IsLeft r r' reads × IsLeft w w' writes
+Fails says (Some Check) r r' w w' reads writes = EndsInFault r r' w w' reads writes
+Fails says (Some (Bundle folder)) r r' w w' reads writes =
+    IsLeft r r' reads × EndsWithFault says folder.now w w' writes.before writes.after
 
 -- What was done is what the arguments ask for,
-pub record DoesAsked (arguments : Result (Vec (String Global) Global) Error)
+pub record DoesAsked (says : Said → Type 0) (arguments : Result (Vec (String Global) Global) Error)
     (r r' w w' : Option (List ℕ)) (reads writes : Counts) : Type 0 where
   pub command : Option Command
   pub asked : AskedFor arguments command
-  pub done : Does command r r' w w' reads writes
+  pub done : Does says command r r' w w' reads writes
 
 -- and so is what was at fault.
-pub record FailsAsked (arguments : Result (Vec (String Global) Global) Error)
+pub record FailsAsked (says : Said → Type 0) (arguments : Result (Vec (String Global) Global) Error)
     (r r' w w' : Option (List ℕ)) (reads writes : Counts) : Type 0 where
   pub command : Option Command
   pub asked : AskedFor arguments command
-  pub failed : Fails command r r' w w' reads writes
+  pub failed : Fails says command r r' w w' reads writes

@@ -7,6 +7,7 @@ use Rattle.rpki_validator.specs.Streams.{TakesSome}
 use Rattle.rpki_validator.specs.declared.runs.RunError.{RunError}
 use Rattle.rpki_validator.specs.declared.runs.RunError.TheVariants as faults
 use Rattle.rpki_commands.specs.Folders.{Tells, TellsLines}
+use Rattle.rpki_commands.specs.Disks.{Said}
 use Rattle.rpki_commands.specs.Limits.{IsReading}
 use Rattle.rpki_commands.specs.declared.folder.ReadFault.{ReadFault}
 use Rattle.rpki_commands.specs.declared.folder.ReadFault.TheVariants as reads
@@ -56,21 +57,23 @@ ReadingFails (Ok None) fault before after = (fault ≡ faults.NotABundle) × Kee
 ReadingFails (Err reads.Read) fault before after = (fault ≡ faults.Read) × Keeps before after
 ReadingFails (Err reads.Memory) fault before after = (fault ≡ faults.Memory) × Keeps before after
 
--- All of the text of some contents within the limits was written: no clause can say which a folder on a disk has.
-pub record WritesBundle (before after : Option (List ℕ)) : Type 0 where
+-- All of the text was written of contents that the folder gives, by what the disk says.
+pub record WritesBundle (says : Said → Type 0) (folder : List ℕ) (before after : Option (List ℕ))
+    : Type 0 where
   pub reading : Result (Option Contents) ReadFault
-  pub read : IsReading reading
+  pub read : IsReading says folder reading
   pub written : WritesReading reading before after
 
 -- What a fault says of what was read of a folder, and of what was written of that.
-pub record BundleFails (fault : RunError) (before after : Option (List ℕ)) : Type 0 where
+pub record BundleFails (says : Said → Type 0) (folder : List ℕ) (fault : RunError)
+    (before after : Option (List ℕ)) : Type 0 where
   pub reading : Result (Option Contents) ReadFault
-  pub read : IsReading reading
+  pub read : IsReading says folder reading
   pub failed : ReadingFails reading fault before after
 
 -- The command ended with a fault, and the count says whether it was the writer's.
-pub record EndsWithFault (before after : Option (List ℕ)) (count_before count_after : ℕ)
-    : Type 0 where
+pub record EndsWithFault (says : Said → Type 0) (folder : List ℕ) (before after : Option (List ℕ))
+    (count_before count_after : ℕ) : Type 0 where
   pub fault : RunError
-  pub fails : BundleFails fault before after
+  pub fails : BundleFails says folder fault before after
   pub count : CountsWrites {T = Unit {0}} (Err fault) count_before count_after

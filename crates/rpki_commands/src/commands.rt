@@ -6,12 +6,12 @@ ghost use Rattle.rpki_commands.specs.Checks.{EndsInFault};
 ghost use Rattle.rpki_digests.specs.Fips.{fips};
 ghost use Rattle.rpki_commands.specs.Texts.{WritesBundle, EndsWithFault};
 
+use crate::folder::disk::Disk;
 use crate::folder::write_bundle;
 use rpki_digests::Fips;
 use rpki_validator::{Counted, run};
 use std::alloc::Global;
 use std::io::{Read, Write};
-use std::rt::Files;
 
 /// The exit status where all was done.
 pub const DONE: u8 = 0;
@@ -53,8 +53,8 @@ pub fn check<R: Read, W: Write, F: Write>(
 }
 
 /// `bundle FOLDER`: reads a folder, writes the bundle that it gives, and what is at fault to `faults`.
-pub fn bundle<R: Files + AllocGlobal + Clone + Drop, W: Write, F: Write>(
-    rt: &R,
+pub fn bundle<D: Disk, W: Write, F: Write>(
+    disk: &D,
     alloc: Global,
     folder: &str,
     writer: &mut Counted<W>,
@@ -64,13 +64,13 @@ pub fn bundle<R: Files + AllocGlobal + Clone + Drop, W: Write, F: Write>(
 
     ensures status { (result ≡ 0) ⊎ (result ≡ 1) }
     ensures done { result ≡ 0
-        → WritesBundle (W.contents writer.old.inner) (W.contents writer.new.inner) }
+        → WritesBundle (D.says disk.now) folder.now (W.contents writer.old.inner) (W.contents writer.new.inner) }
     ensures done_count { result ≡ 0 → writer.new.failures ≡ writer.old.failures }
     ensures failed { result ≡ 1
-        → EndsWithFault (W.contents writer.old.inner) (W.contents writer.new.inner)
+        → EndsWithFault (D.says disk.now) folder.now (W.contents writer.old.inner) (W.contents writer.new.inner)
         writer.old.failures writer.new.failures }
 {
-    match write_bundle(rt, alloc, folder, writer) {
+    match write_bundle(disk, alloc, folder, writer) {
         Ok(()) => DONE,
         Err(fault) => {
             // What can't be written is lost; the status says that there was something.

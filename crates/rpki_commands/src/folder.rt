@@ -1,6 +1,7 @@
 //! A folder that becomes a bundle: what is read of it, and the parts that this gives.
 
-mod files;
+pub mod disk;
+pub mod files;
 mod lines;
 pub mod parts;
 mod verdicts;

@@ -8,6 +8,8 @@ pub mod programs;
 
 pub use arguments::{Command, USAGE, command_of};
 pub use commands::{FAILED, bundle, check};
+pub use folder::disk::{Disk, Kind};
+pub use folder::files::System;
 pub use programs::check_program;
 pub use rpki_digests::Fips;
 pub use rpki_validator::{

@@ -1,22 +1,21 @@
-//! The reading of a folder, one open folder at a time.
+//! The reading of a folder.
 
-ghost use Rattle.std.specs.Prelude.{◌≡◌, ◌↔◌, ◌+◌, ◌^◌, ◌≤◌, ◌++◌, ◌∷◌, [], codes, length, string_bytes, vec_len, IsTrue, IfOk, IfErr, IfSome, OnOk, MatchOption, ◌≢◌, ℕ, List};
-ghost use Rattle.rpki_commands.specs.Limits.{IsAtLevel, IsEntryName, IsFileUri, IsPending, IsReading, IsScheme, IsWalked};
+ghost use Rattle.std.specs.Prelude.{◌≡◌, ◌↔◌, ◌+◌, ◌^◌, ◌≤◌, ◌++◌, ◌∷◌, [], codes, length, string_bytes, IsTrue, IfOk, IfErr, IfSome, OnOk, MatchOption, ◌≢◌, ℕ, List};
+ghost use Rattle.rpki_commands.specs.rpki_bundle.declared.parts.Locator.{Locator as LocatorValue};
+ghost use Rattle.rpki_commands.specs.rpki_bundle.declared.parts.Object.{Object as ObjectValue};
+ghost use Rattle.rpki_commands.specs.declared.folder.disk.Kind.TheVariants.{File as is_file};
+ghost use Rattle.rpki_commands.specs.Disks.{HasFile, HoldsFront, GivesEntry, GivesFile, GivesLines, GivesLocators, GivesScheme, GivesText, GivesVerdicts, IsFileAt, Stands};
+ghost use Rattle.rpki_commands.specs.Limits.{IsAtLevel, IsEntryName, IsFileUri, IsEmpty, IsReading, IsScheme, IsWalked, Took, TookAll, TookFolder};
 
 use crate::folder::ReadFault;
-use crate::folder::files::{Kind, MOST_OCTETS, kind_of, read_file, read_if_there};
+use crate::folder::disk::{Disk, Kind, MOST_OCTETS};
 use crate::folder::parts::Contents;
 use bytes::Bytes;
 use rpki_validator::{Locator, Object};
 use std::alloc::{AllocError, Global};
-use std::fs;
-use std::rt::Files;
 
 // How many folders stand in each other, with `rsync`, `https` or `tals` as the first.
 const MOST_LEVELS: u8 = 64;
-
-// How many entries all folders that are listed have.
-const MOST_ENTRIES: u32 = 1_000_000;
 
 // All files of a bundle have fewer octets together.
 const MOST_KEPT: usize = 4_294_967_296;
@@ -24,22 +23,15 @@ const MOST_KEPT: usize = 4_294_967_296;
 // So many octets of `moment`, of `depth` and of `relaxed` are kept. Each has fewer; a longer text is none, cut or not.
 const MOST_LINE: usize = 64;
 
+// How many entries all folders that are listed have.
+const MOST_ENTRIES: u32 = 1_000_000;
+
 // So many octets of a file are read at once.
 const PIECE: usize = 65_536;
-
-// A folder that is still to be listed.
-#[derive(Drop)]
-struct Pending {
-    path: String,
-    // What stands before a slash and an entry's name in the entry's URI.
-    uri: String,
-    level: u8,
-}
 
 // What was read so far of `tals`, `rsync` and `https`.
 #[derive(Drop)]
 struct Walk {
-    pending: Vec<Pending>,
     locators: Vec<Locator>,
     objects: Vec<Object>,
     entries_left: u32,
@@ -85,10 +77,10 @@ fn count_entry(entries_left: &mut u32) -> Result<(), ReadFault>
 impl Walk {
     // Nothing was read yet.
     fn new(alloc: Global) -> Result<Walk, AllocError>
-        ensures { IfOk result (IsWalked 0) }
+        ensures walked { IfOk result (IsWalked 0) }
+        ensures empty { IfOk result IsEmpty }
     {
         Ok(Walk {
-            pending: Vec::new(alloc),
             locators: Vec::new(alloc),
             objects: Vec::new(alloc),
             entries_left: MOST_ENTRIES,
@@ -105,24 +97,24 @@ impl Walk {
     }
 
     // The octets of one more file. Where there are too many of all files, none of them stay.
-    fn octets_of<R: Files>(
+    fn octets_of<D: Disk>(
         &mut self,
-        rt: &R,
+        disk: &D,
         alloc: Global,
         path: &str,
         size: u64,
     ) -> Result<Bytes, ReadFault>
+        ensures held { IfOk result
+            (λ octets. HoldsFront (D.says disk.now) path.now self.old.octets_left octets) }
         ensures counted { IfOk result
             (λ octets. self.new.octets_left + length octets ≡ self.old.octets_left) }
         ensures entries { self.new.entries_left ≡ self.old.entries_left }
-        ensures pending { self.new.pending ≡ self.old.pending }
         ensures kept { OnOk result (self.new.octets_left ≢ 0
             → (self.new.locators ≡ self.old.locators) × (self.new.objects ≡ self.old.objects)) }
         ensures none_kept { OnOk result (self.new.octets_left ≡ 0
             → (self.new.locators.items ≡ []) × (self.new.objects.items ≡ [])) }
     {
-        let octets = read_file(
-            rt,
+        let octets = disk.read(
             alloc,
             path,
             size,
@@ -138,20 +130,22 @@ impl Walk {
     }
 
     // An object, unless there are too many octets.
-    fn take_object<R: Files>(
+    fn take_object<D: Disk>(
         &mut self,
-        rt: &R,
+        disk: &D,
         alloc: Global,
         path: &str,
         uri: String,
         size: u64,
     ) -> Result<(), ReadFault>
         ensures entries { self.new.entries_left ≡ self.old.entries_left }
-        ensures pending { self.new.pending ≡ self.old.pending }
         ensures walked { IsWalked 1 self.old → IsFileUri (string_bytes uri)
             → OnOk result (IsWalked 0 self.new) }
+        ensures took { D.says disk.now (Stands path.now (is_file size)) → OnOk result
+            ((os : List ObjectValue) × GivesFile (D.says disk.now) path.now (string_bytes uri) os
+            × Took [] os self.old self.new) }
     {
-        let octets = self.octets_of(rt, alloc, path, size)?;
+        let octets = self.octets_of(disk, alloc, path, size)?;
         if !self.is_full() {
             let uri = Bytes::from_string(uri)?;
             self.objects.push(Object { uri, octets })?;
@@ -159,18 +153,72 @@ impl Walk {
         Ok(())
     }
 
-    // A locator, unless there are too many octets.
-    fn take_locator<R: Files>(
+    // All that stands in a folder, and below it: so many more folders may stand in each other.
+    fn take_all<D: Disk>(
         &mut self,
-        rt: &R,
+        disk: &D,
+        alloc: Global,
+        path: &str,
+        uri: &str,
+        levels: u8,
+    ) -> Result<(), ReadFault>
+        ensures walked { IsWalked 0 self.old → (above : ℕ) → above + levels ≡ 63
+            → IsAtLevel above uri.now → OnOk result (IsWalked 0 self.new) }
+        ensures took { OnOk result
+            (TookFolder (D.says disk.now) levels path.now uri.now self.old self.new) }
+    {
+        let names = disk.names(alloc, path, self.entries_left)?;
+        for name in names.as_slice() {
+            count_entry(&mut self.entries_left)?;
+            let below = joined(alloc, path, name.as_str())?;
+            let at = joined(alloc, uri, name.as_str())?;
+            match disk.kind_of(below.as_str())? {
+                Kind::File(size) => self.take_object(disk, alloc, below.as_str(), at, size)?,
+                Kind::Folder if levels > 0 => {
+                    self.take_all(disk, alloc, below.as_str(), at.as_str(), levels - 1)?
+                }
+                _ => return Err(ReadFault::Read),
+            }
+        }
+        Ok(())
+    }
+
+    // All that stands below the folder of a scheme, if it is there.
+    fn take_scheme<D: Disk>(
+        &mut self,
+        disk: &D,
+        alloc: Global,
+        path: &str,
+        uri: &str,
+    ) -> Result<(), ReadFault>
+        ensures walked { IsWalked 0 self.old → IsScheme uri.now
+            → OnOk result (IsWalked 0 self.new) }
+        ensures took { OnOk result ((os : List ObjectValue)
+            × GivesScheme (D.says disk.now) path.now uri.now os × Took [] os self.old self.new) }
+    {
+        match disk.kind_of(path)? {
+            Kind::Absent => Ok(()),
+            Kind::File(_) => Err(ReadFault::Read),
+            Kind::Folder => self.take_all(disk, alloc, path, uri, MOST_LEVELS - 1),
+        }
+    }
+
+    // A locator, unless there are too many octets.
+    fn take_locator<D: Disk>(
+        &mut self,
+        disk: &D,
         alloc: Global,
         path: &str,
         name: &str,
         size: u64,
     ) -> Result<(), ReadFault>
-        ensures { IsWalked 1 self.old → IsEntryName name.now → OnOk result (IsWalked 0 self.new) }
+        ensures walked { IsWalked 1 self.old → IsEntryName name.now
+            → OnOk result (IsWalked 0 self.new) }
+        ensures took { D.says disk.now (Stands path.now (is_file size)) → OnOk result
+            ((octets : List ℕ) × HasFile (D.says disk.now) path.now octets
+            × Took (record { name = name.now; text = octets } ∷ []) [] self.old self.new) }
     {
-        let text = self.octets_of(rt, alloc, path, size)?;
+        let text = self.octets_of(disk, alloc, path, size)?;
         if !self.is_full() {
             let name = Bytes::copy_from_slice(alloc, name.as_bytes())?;
             self.locators.push(Locator { name, text })?;
@@ -178,124 +226,68 @@ impl Walk {
         Ok(())
     }
 
-    // An entry of a folder of that level: an object, or one more folder to list.
-    fn take_entry<R: Files>(
+    // What stands in `tals` under that name: a locator where it is a file and its name ends in `.tal`.
+    fn take_entry<D: Disk>(
         &mut self,
-        rt: &R,
+        disk: &D,
         alloc: Global,
         path: &str,
-        uri: String,
-        level: u8,
+        name: &str,
     ) -> Result<(), ReadFault>
-        ensures walked { IsWalked 0 self.old → 1 ≤ level → level ≤ 64
-            → IsAtLevel level (string_bytes uri) → OnOk result (IsWalked 0 self.new) }
-        ensures fewer { OnOk result
-            (self.new.entries_left + vec_len self.new.pending
-            ≤ self.old.entries_left + vec_len self.old.pending) }
-    {
-        count_entry(&mut self.entries_left)?;
-        match kind_of(rt, path)? {
-            Kind::File(size) => self.take_object(rt, alloc, path, uri, size)?,
-            Kind::Folder if level < MOST_LEVELS => {
-                let path = String::from_str(alloc, path)?;
-                let level = level + 1;
-                self.pending.push(Pending { path, uri, level })?;
-            }
-            _ => return Err(ReadFault::Read),
-        }
-        Ok(())
-    }
-
-    // All entries of a folder.
-    fn list<R: Files + AllocGlobal + Clone + Drop>(
-        &mut self,
-        rt: &R,
-        alloc: Global,
-        folder: Pending,
-    ) -> Result<(), ReadFault>
-        ensures walked { IsWalked 0 self.old → IsPending folder
+        ensures walked { IsWalked 1 self.old → IsEntryName name.now
             → OnOk result (IsWalked 0 self.new) }
-        ensures fewer { OnOk result
-            (self.new.entries_left + vec_len self.new.pending
-            ≤ self.old.entries_left + vec_len self.old.pending) }
+        ensures took { OnOk result ((ls : List LocatorValue)
+            × GivesEntry (D.says disk.now) path.now name.now ls × Took ls [] self.old self.new) }
     {
-        for entry in fs::read_dir(rt, folder.path.as_str())? {
-            let entry = entry?;
-            let uri = joined(alloc, folder.uri.as_str(), entry.file_name())?;
-            self.take_entry(rt, alloc, entry.path().as_str(), uri, folder.level)?;
+        match (disk.kind_of(path)?, locator_name(name)) {
+            (Kind::Absent, _) => Err(ReadFault::Read),
+            (Kind::File(size), Some(name)) => self.take_locator(disk, alloc, path, name, size),
+            _ => Ok(()),
         }
-        Ok(())
-    }
-
-    // All that is below the folder of a scheme, if it is there.
-    fn walk<R: Files + AllocGlobal + Clone + Drop>(
-        &mut self,
-        rt: &R,
-        alloc: Global,
-        path: String,
-        uri: &str,
-    ) -> Result<(), ReadFault>
-        ensures { IsWalked 0 self.old → IsScheme uri.now → OnOk result (IsWalked 0 self.new) }
-    {
-        match kind_of(rt, path.as_str())? {
-            Kind::Absent => return Ok(()),
-            Kind::File(_) => return Err(ReadFault::Read),
-            Kind::Folder => {}
-        }
-        let uri = String::from_str(alloc, uri)?;
-        self.pending.push(Pending {
-            path,
-            uri,
-            level: 1,
-        })?;
-        while let Some(folder) = self.pending.pop() {
-            self.list(rt, alloc, folder)?;
-        }
-        Ok(())
     }
 
     // The locators of the files of `tals` whose names end in `.tal`, if it is there.
-    fn take_locators<R: Files + AllocGlobal + Clone + Drop>(
+    fn take_locators<D: Disk>(
         &mut self,
-        rt: &R,
+        disk: &D,
         alloc: Global,
         path: &str,
     ) -> Result<(), ReadFault>
-        ensures { IsWalked 0 self.old → OnOk result (IsWalked 0 self.new) }
+        ensures walked { IsWalked 0 self.old → OnOk result (IsWalked 0 self.new) }
+        ensures took { OnOk result ((ls : List LocatorValue)
+            × GivesLocators (D.says disk.now) path.now ls × Took ls [] self.old self.new) }
     {
-        match kind_of(rt, path)? {
+        match disk.kind_of(path)? {
             Kind::Absent => return Ok(()),
             Kind::File(_) => return Err(ReadFault::Read),
             Kind::Folder => {}
         }
-        for entry in fs::read_dir(rt, path)? {
-            let entry = entry?;
+        let names = disk.names(alloc, path, self.entries_left)?;
+        for name in names.as_slice() {
             count_entry(&mut self.entries_left)?;
-            let path = entry.path();
-            match (kind_of(rt, path.as_str())?, locator_name(entry.file_name())) {
-                (Kind::Absent, _) => return Err(ReadFault::Read),
-                (Kind::File(size), Some(name)) => {
-                    self.take_locator(rt, alloc, path.as_str(), name, size)?
-                }
-                _ => {}
-            }
+            let below = joined(alloc, path, name.as_str())?;
+            self.take_entry(disk, alloc, below.as_str(), name.as_str())?;
         }
         Ok(())
     }
 
     // All that is below `tals`, `rsync` and `https`.
-    fn walk_all<R: Files + AllocGlobal + Clone + Drop>(
+    fn take_whole<D: Disk>(
         &mut self,
-        rt: &R,
+        disk: &D,
         alloc: Global,
         folder: &str,
     ) -> Result<(), ReadFault>
-        ensures { IsWalked 0 self.old → OnOk result (IsWalked 0 self.new) }
+        ensures walked { IsWalked 0 self.old → OnOk result (IsWalked 0 self.new) }
+        ensures took { OnOk result
+            (TookAll (D.says disk.now) folder.now self.old self.new) }
     {
         let tals = joined(alloc, folder, "tals")?;
-        self.take_locators(rt, alloc, tals.as_str())?;
-        self.walk(rt, alloc, joined(alloc, folder, "rsync")?, "rsync:/")?;
-        self.walk(rt, alloc, joined(alloc, folder, "https")?, "https:/")
+        self.take_locators(disk, alloc, tals.as_str())?;
+        let rsync = joined(alloc, folder, "rsync")?;
+        self.take_scheme(disk, alloc, rsync.as_str(), "rsync:/")?;
+        let https = joined(alloc, folder, "https")?;
+        self.take_scheme(disk, alloc, https.as_str(), "https:/")
     }
 }
 
@@ -307,24 +299,60 @@ fn locator_name(file: &str) -> Option<&str>
     file.strip_suffix(".tal")
 }
 
+// The first `most` octets of a file that may be missing.
+fn read_if_there<D: Disk>(
+    disk: &D,
+    alloc: Global,
+    path: &str,
+    most: usize,
+    buffer: &mut [u8],
+) -> Result<Option<Vec<u8>>, ReadFault>
+    ensures few { IfOk result (λ found. IfSome found (λ octets. length octets.items ≤ most)) }
+    ensures given { IfOk result (GivesText (D.says disk.now) path.now most) }
+{
+    match disk.kind_of(path)? {
+        Kind::Absent => Ok(None),
+        Kind::File(size) => Ok(Some(disk.read(alloc, path, size, most, buffer)?)),
+        Kind::Folder => Err(ReadFault::Read),
+    }
+}
+
 // A file of one line, which has to be there.
-fn read_line<R: Files>(
-    rt: &R,
+fn read_line<D: Disk>(
+    disk: &D,
     alloc: Global,
     path: &str,
     buffer: &mut [u8],
 ) -> Result<Vec<u8>, ReadFault>
-    ensures { IfOk result (λ octets. length octets.items ≤ 64) }
+    ensures few { IfOk result (λ octets. length octets.items ≤ 64) }
+    ensures given { IfOk result
+        (λ octets. IsFileAt (D.says disk.now) path.now 64 octets.items) }
 {
-    match read_if_there(rt, alloc, path, MOST_LINE, buffer)? {
+    match read_if_there(disk, alloc, path, MOST_LINE, buffer)? {
         Some(octets) => Ok(octets),
         None => Err(ReadFault::Read),
     }
 }
 
+// The octets of `verdicts`, none where it is absent.
+fn read_verdicts<D: Disk>(
+    disk: &D,
+    alloc: Global,
+    path: &str,
+    buffer: &mut [u8],
+) -> Result<Vec<u8>, ReadFault>
+    ensures few { IfOk result (λ octets. length octets.items ≤ 2 ^ 32) }
+    ensures given { IfOk result (λ octets. GivesVerdicts (D.says disk.now) path.now octets.items) }
+{
+    match read_if_there(disk, alloc, path, MOST_OCTETS, buffer)? {
+        Some(octets) => Ok(octets),
+        None => Ok(Vec::new(alloc)),
+    }
+}
+
 // The files of lines that stand in the folder itself.
-fn read_lines<R: Files>(
-    rt: &R,
+fn read_lines<D: Disk>(
+    disk: &D,
     alloc: Global,
     folder: &str,
     buffer: &mut [u8],
@@ -334,18 +362,16 @@ fn read_lines<R: Files>(
     ensures relaxed { IfOk result
         (λ lines. IfSome lines.relaxed (λ text. length text.items ≤ 64)) }
     ensures verdicts { IfOk result (λ lines. length lines.verdicts.items ≤ 2 ^ 32) }
+    ensures given { IfOk result (GivesLines (D.says disk.now) folder.now) }
 {
     let moment = joined(alloc, folder, "moment")?;
-    let moment = read_line(rt, alloc, moment.as_str(), buffer)?;
+    let moment = read_line(disk, alloc, moment.as_str(), buffer)?;
     let depth = joined(alloc, folder, "depth")?;
-    let depth = read_line(rt, alloc, depth.as_str(), buffer)?;
+    let depth = read_line(disk, alloc, depth.as_str(), buffer)?;
     let relaxed = joined(alloc, folder, "relaxed")?;
-    let relaxed = read_if_there(rt, alloc, relaxed.as_str(), MOST_LINE, buffer)?;
+    let relaxed = read_if_there(disk, alloc, relaxed.as_str(), MOST_LINE, buffer)?;
     let verdicts = joined(alloc, folder, "verdicts")?;
-    let verdicts = match read_if_there(rt, alloc, verdicts.as_str(), MOST_OCTETS, buffer)? {
-        Some(octets) => octets,
-        None => Vec::new(alloc),
-    };
+    let verdicts = read_verdicts(disk, alloc, verdicts.as_str(), buffer)?;
     Ok(Lines {
         moment,
         depth,
@@ -356,19 +382,19 @@ fn read_lines<R: Files>(
 
 /// All that a bundle is made of, or none where the files have more octets than a bundle can hold. What else lies in
 /// the folder is left alone.
-pub fn read_folder<R: Files + AllocGlobal + Clone + Drop>(
-    rt: &R,
+pub fn read_folder<D: Disk>(
+    disk: &D,
     alloc: Global,
     folder: &str,
 ) -> Result<Option<Contents>, ReadFault>
-    ensures { IsReading result }
+    ensures { IsReading (D.says disk.now) folder.now result }
 {
-    if kind_of(rt, folder)? != Kind::Folder {
+    if disk.kind_of(folder)? != Kind::Folder {
         return Err(ReadFault::Read);
     }
     let mut walk = Walk::new(alloc)?;
-    let lines = read_lines(rt, alloc, folder, walk.buffer.as_mut_slice())?;
-    walk.walk_all(rt, alloc, folder)?;
+    let lines = read_lines(disk, alloc, folder, walk.buffer.as_mut_slice())?;
+    walk.take_whole(disk, alloc, folder)?;
     if walk.is_full() {
         return Ok(None);
     }

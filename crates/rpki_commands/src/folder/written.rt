@@ -9,12 +9,12 @@ ghost use Rattle.rpki_commands.specs.Folders.{OnMemory, TellsLines, value_of};
 ghost use Rattle.rpki_commands.specs.Texts.{TellsText, TellsNoText, WritesContents, ContentsFail, WritesReading, ReadingFails, WritesBundle, BundleFails};
 
 use crate::folder::ReadFault;
+use crate::folder::disk::Disk;
 use crate::folder::parts::{Contents, Parts, parts_of};
 use crate::folder::walk::read_folder;
 use rpki_validator::{Bundle, BundleError, Counted, RunError, Version, write_all};
 use std::alloc::Global;
 use std::io::Write;
-use std::rt::Files;
 
 // The bundle of its version that has these parts.
 fn bundle_of(parts: Parts) -> Result<Bundle, BundleError>
@@ -111,8 +111,8 @@ pub fn write_reading<W: Write>(
 
 /// Reads a folder, and writes the bundle that it gives. Nothing is written before all was read. `Read` where something in the
 /// folder can't be read, is missing, or is too much.
-pub fn write_bundle<R: Files + AllocGlobal + Clone + Drop, W: Write>(
-    rt: &R,
+pub fn write_bundle<D: Disk, W: Write>(
+    disk: &D,
     alloc: Global,
     folder: &str,
     writer: &mut Counted<W>,
@@ -120,11 +120,11 @@ pub fn write_bundle<R: Files + AllocGlobal + Clone + Drop, W: Write>(
     requires few_writes { writer.old.failures < 2 ^ 64 - 1 }
 
     ensures ok { OnOk result
-        (WritesBundle (W.contents writer.old.inner) (W.contents writer.new.inner)) }
+        (WritesBundle (D.says disk.now) folder.now (W.contents writer.old.inner) (W.contents writer.new.inner)) }
     ensures refused { IfErr result
-        (λ e. BundleFails e (W.contents writer.old.inner) (W.contents writer.new.inner)) }
+        (λ e. BundleFails (D.says disk.now) folder.now e (W.contents writer.old.inner) (W.contents writer.new.inner)) }
     ensures count { CountsWrites result writer.old.failures writer.new.failures }
 {
-    let reading = read_folder(rt, alloc, folder);
+    let reading = read_folder(disk, alloc, folder);
     write_reading(alloc, reading, writer)
 }
